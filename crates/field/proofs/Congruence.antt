@@ -1,8 +1,8 @@
 -- What a sum, a product or a power leaves modulo m depends only on what its parts leave: a number differs from its residue by
 -- a multiple of m, and so does all that is made of it.
-use mathlib.Core.Path.{_≡_, refl, _∙_, sym, ap, ap₂}
+use mathlib.Core.Path.{_≡_, _∙_, sym, ap, ap₂}
 use Prim.Native.Nat.{ℕ, zero, suc, _+_, _*_, _^_, _/_, _%_}
-use native.Mathlib.Nat.{add-mod, div-add-mod, mod-mod, mul-add-mod-self-left, mul-comm, pow-suc, pow-zero}
+use native.Mathlib.Nat.{add-mod, div-add-mod, mul-add-mod-self-left, mul-comm, pow-suc, pow-zero}
 use native.Mathlib.Omega.{arith}
 
 pub mul-mod-mod : (a b m : ℕ) → (a * (b % m)) % m ≡ (a * b) % m
@@ -26,6 +26,3 @@ module _ (m a a′ b b′ : ℕ) (left : a % m ≡ a′ % m) (right : b % m ≡ 
 pub pow-congr : (m a b n : ℕ) → a % m ≡ b % m → (a ^ n) % m ≡ (b ^ n) % m
 pow-congr m a b zero h = rw (pow-zero a, pow-zero b)
 pow-congr m a b (suc n) h = rw (pow-suc a n, pow-suc b n) (mul-congr m (a ^ n) (b ^ n) a b (pow-congr m a b n h) h)
-
-pub pow-mod : (a n m : ℕ) → (a ^ n) % m ≡ ((a % m) ^ n) % m
-pow-mod a n m = pow-congr m a (a % m) n (sym (mod-mod a m))

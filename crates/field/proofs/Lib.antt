@@ -1,6 +1,7 @@
 pub mod Congruence
-pub mod Lucas
-pub mod Pigeonhole
-pub mod Power
 pub mod Prime
-pub mod Split
+mod Lucas
+mod Order
+mod Pigeonhole
+mod Power
+mod Split

@@ -1,7 +1,6 @@
 -- No n + 1 numbers below n differ from one another: without the last of them, and with those above it moved down by one, there
 -- are n that differ below n - 1, and so on down to one number below 0.
 use mathlib.Core.Logic.{_≢_, by-cases}
-use mathlib.Core.Path.{_≡_}
 use Prim.Native.Nat.{ℕ, zero, suc, _+_, _-_, _≤_, _<_, min}
 use native.Mathlib.Decide.{decLt}
 use native.Mathlib.Nat.{le-refl, not-suc-le-zero}
@@ -26,6 +25,7 @@ skip-apart v x y hx hy differ e =
 pub pigeonhole : (n : ℕ) (f : ℕ → ℕ) → ((i : ℕ) → i ≤ n → f i < n) → ((i j : ℕ) → i < j → j ≤ n → f i ≢ f j) → ⊥
 pigeonhole zero f below apart = not-suc-le-zero (below 0 (le-refl 0))
 pigeonhole (suc n) f below apart =
+    let last : (i : ℕ) → i ≤ n → f i ≢ f (suc n) = λ i h. apart i (suc n) (omega arith) (le-refl (suc n)) in
     pigeonhole n (λ i. skip (f (suc n)) (f i))
-    (λ i h. skip-below n (f (suc n)) (f i) (below (suc n) (le-refl (suc n))) (below i (omega arith)) (apart i (suc n) (omega arith) (le-refl (suc n))))
-    (λ i j h k. skip-apart (f (suc n)) (f i) (f j) (apart i (suc n) (omega arith) (le-refl (suc n))) (apart j (suc n) (omega arith) (le-refl (suc n))) (apart i j h (omega arith)))
+    (λ i h. skip-below n _ _ (below (suc n) (le-refl (suc n))) (below i (omega arith)) (last i h))
+    (λ i j l h. skip-apart _ _ _ (last i (omega arith)) (last j h) (apart i j l (omega arith)))

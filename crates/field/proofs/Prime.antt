@@ -1,19 +1,21 @@
--- p has no zero divisors, by Lucas's criterion: 37 has the order p - 1 modulo p, and all primes of p - 1 are small.
+-- p has no zero divisors, by Lucas's criterion: 37 has the order p - 1 modulo p, which is computed from the primes of p - 1.
+-- So w (w - 1) is 0 modulo p for no other residues than 0 and 1.
 use mathlib.Core.List.{List, [], _∷_}
 use mathlib.Core.Logic.{_⊎_, ⊎-elim}
 use mathlib.Core.Path.{_≡_, refl}
 use Prim.Native.Nat.{ℕ, zero, suc, _+_, _-_, _*_, _%_, _<_}
 use native.Mathlib.Omega.{arith}
 use Rattle.field.specs.Field.{p}
-use Rattle.field.proofs.Lucas as Lucas
+use Rattle.field.proofs.Lucas.{lucas}
 use Rattle.field.proofs.Power.{power}
 
-primes : List ℕ
-primes = 1321 ∷ 331 ∷ 151 ∷ 61 ∷ 41 ∷ 31 ∷ 13 ∷ 11 ∷ 7 ∷ 5 ∷ 5 ∷ 3 ∷ 3 ∷ 2 ∷ []
+-- the primes of p - 1, each as often as it divides
+abbrev factors : List ℕ
+factors = 1321 ∷ 331 ∷ 151 ∷ 61 ∷ 41 ∷ 31 ∷ 13 ∷ 11 ∷ 7 ∷ 5 ∷ 5 ∷ 3 ∷ 3 ∷ 2 ∷ []
 
 pub no-zero-divisors : (a b : ℕ) → (a * b) % p ≡ 0 → (a % p ≡ 0) ⊎ (b % p ≡ 0)
-unfolding primes power
-no-zero-divisors = Lucas.no-zero-divisors p 37 primes refl refl
+unfolding power
+no-zero-divisors = lucas p 37 factors refl refl
 
 pub bit-roots : (w : ℕ) → w < p → (w * (w + (p - 1))) % p ≡ 0 → w < 2
 bit-roots w h e = ⊎-elim (λ l. omega arith) (λ r. omega arith) (no-zero-divisors w (w + (p - 1)) e)
