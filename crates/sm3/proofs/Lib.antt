@@ -1,0 +1,9 @@
+pub mod Bits
+pub mod Bounds
+pub mod Bytes
+pub mod Front
+pub mod Numbers
+pub mod Sums
+pub mod Tab
+pub mod Turn
+pub mod Writes

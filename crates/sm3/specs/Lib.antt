@@ -1,0 +1,4 @@
+pub mod Digest
+pub mod Message
+pub mod Sm3
+pub mod Words

@@ -1,0 +1,51 @@
+-- The message of a record and its digest (document 01, "SM3 as used" and "The words of demand 3"). A record is n bits;
+-- that it comes in whole bytes is a matter of the operations.
+use mathlib.Core.Bool.{cond}
+use mathlib.Core.List.{List, [], _∷_, _++_}
+use Prim.Native.Nat.{ℕ, zero, suc, _+_, _-_, _*_, _/_, _%_, _^_}
+use lib.Dec.{ltb, eqb}
+use lib.ListN.{length, getD}
+use Rattle.sm3.specs.Sm3.{start, block}
+use Rattle.sm3.specs.declared.state.State.{State}
+
+-- "the highest bit of a byte come[s] first": bit k of a list of bytes
+unfoldable pub bitOfBytes : List ℕ → ℕ → ℕ
+bitOfBytes bytes k = getD bytes (k / 8) 0 / 2 ^ (7 - k % 8) % 2
+
+-- "blocks n = floor((L + 8) / 64) + 1", in bits
+unfoldable pub blocks : ℕ → ℕ
+blocks n = (n + 64) / 512 + 1
+
+-- "Padding: one bit 1, zeros, then the bit length in 64 bits, highest first": bit k of the message of the n bits r
+unfoldable pub message : ℕ → (ℕ → ℕ) → ℕ → ℕ
+message n r k =
+    cond (ltb k n) (r k)
+    (cond (eqb k n) 1
+    (cond (ltb k (512 * blocks n - 64)) 0
+    (n / 2 ^ (512 * blocks n - 1 - k) % 2)))
+
+-- "The message is .. in n blocks of 512 bits": bit k of block i
+unfoldable pub blockBits : (ℕ → ℕ) → ℕ → ℕ → ℕ
+blockBits m i k = m (512 * i + k)
+
+-- "Block 0 begins with the start words, each later block with the result of the one before": what block i begins with
+unfoldable pub chain : (ℕ → ℕ) → ℕ → State
+chain m zero = start
+chain m (suc i) = block (blockBits m i) (chain m i)
+
+-- "the last result is the digest", of n bits
+unfoldable pub digestOf : ℕ → (ℕ → ℕ) → State
+digestOf n r = chain (message n r) (blocks n)
+
+-- "in .. digests the highest byte of a word .. come[s] first": the 4 bytes of a word, the 32 bytes of eight words
+unfoldable pub bytesOfWord : ℕ → List ℕ
+bytesOfWord x = x / 2 ^ 24 ∷ x / 2 ^ 16 % 256 ∷ x / 2 ^ 8 % 256 ∷ x % 256 ∷ []
+
+unfoldable pub bytesOf : State → List ℕ
+bytesOf s =
+    bytesOfWord (s .a) ++ bytesOfWord (s .b) ++ bytesOfWord (s .c) ++ bytesOfWord (s .d)
+    ++ bytesOfWord (s .e) ++ bytesOfWord (s .f) ++ bytesOfWord (s .g) ++ bytesOfWord (s .h)
+
+-- the digest of a record of whole bytes
+unfoldable pub digestBytes : List ℕ → List ℕ
+digestBytes bytes = bytesOf (digestOf (8 * length bytes) (bitOfBytes bytes))

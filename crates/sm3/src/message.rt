@@ -1,0 +1,81 @@
+// The blocks of a record's padded message, one at a time.
+ghost use mathlib.Core.Path.{_≡_};
+ghost use Prim.Native.Nat.{ℕ, _+_, _*_, _/_, _%_, _<_, _≤_};
+ghost use lib.ListN.{length, getD, set};
+ghost use Rattle.sm3.specs.Message.{bitOfBytes, blocks, blockBits, chain, digestOf, message};
+ghost use Rattle.sm3.specs.Sm3.{block, turnedConstant};
+ghost use Rattle.sm3.specs.Words.{tab};
+use crate::block::compress;
+use crate::constants::start_state;
+use crate::constants::turned_constants;
+use crate::state::State;
+
+// The bytes of the record from `at` on, fewer than 64, with zeros after them.
+fn tail(bytes: &[u8], at: usize) -> [u8; 64]
+    requires { ⌜ (at ≤ length (now bytes)) × (length (now bytes) < at + 64) ⌝ }
+    ensures { λ r. ⌜ r ≡ tab 64 (λ (k : ℕ). getD (now (bytes .entry)) (at + k) 0) ⌝ }
+{
+    let n = bytes.len() - at;
+    let mut b = [0u8; 64];
+    for k in 0..n {
+        b[k] = bytes[at + k];
+    }
+    b
+}
+
+// The bit length of a record of n bytes, 8 * n, in a block's last two bytes: n is too small for the six before them.
+fn with_length(b: [u8; 64], n: usize) -> [u8; 64]
+    requires { ⌜ n ≤ 1015 ⌝ }
+    ensures { λ r. ⌜ r ≡ set (set b 62 (n / 32)) 63 (n % 32 * 8) ⌝ }
+{
+    let mut r = b;
+    r[62] = (n / 32) as u8;
+    r[63] = (n % 32 * 8) as u8;
+    r
+}
+
+// Block i of the message, one that the record does not fill, as bytes: the end of the record, the bit 1, zeros and in
+// the last block the bit length.
+fn padded(bytes: &[u8], i: usize) -> [u8; 64]
+    requires { ⌜ (length (now bytes) ≤ 1015) × (i < blocks (8 * length (now bytes))) × (length (now bytes) < 64 * i + 64) ⌝ }
+    ensures { λ r. ⌜ ((k : ℕ) → k < 512 → bitOfBytes r k ≡ blockBits (message (8 * length (now (bytes .entry))) (bitOfBytes (now (bytes .entry)))) i k) ⌝ }
+{
+    let n = bytes.len();
+    let at = 64 * i;
+    if n < at {
+        return with_length([0u8; 64], n);
+    }
+    let mut b = tail(bytes, at);
+    b[n - at] = 128;
+    if n + 9 <= at + 64 {
+        return with_length(b, n);
+    }
+    b
+}
+
+// What block i + 1 begins with, where block i begins with v.
+fn next_state(v: State, bytes: &[u8], i: usize, t: &[u32; 64]) -> State
+    requires { ⌜ (length (now bytes) ≤ 1015) × (i < blocks (8 * length (now bytes))) × (now t ≡ tab 64 turnedConstant) ⌝ }
+    ensures { λ r. ⌜ r ≡ block (blockBits (message (8 * length (now (bytes .entry))) (bitOfBytes (now (bytes .entry)))) i) v ⌝ }
+{
+    let at = 64 * i;
+    if at + 64 <= bytes.len() {
+        return compress(v, bytes, at, t);
+    }
+    let b = padded(bytes, i);
+    compress(v, &b, 0, t)
+}
+
+// The digest of a record, as words.
+pub fn hash(bytes: &[u8]) -> State
+    requires { ⌜ length (now bytes) ≤ 1015 ⌝ }
+    ensures { λ r. ⌜ r ≡ digestOf (8 * length (now (bytes .entry))) (bitOfBytes (now (bytes .entry))) ⌝ }
+{
+    let n = (bytes.len() + 8) / 64 + 1;
+    let t = turned_constants();
+    let mut v = start_state();
+    for i in 0..n {
+        v = next_state(v, bytes, i, &t);
+    }
+    v
+}

@@ -1,0 +1,55 @@
+// The standard's functions on words of 32 bits.
+ghost use mathlib.Core.Path.{_≡_};
+ghost use Prim.Native.Nat.{_+_, _%_, _^_, _<_};
+ghost use Rattle.sm3.specs.Words.{turn};
+ghost use Rattle.sm3.specs.Sm3.{_⊕_, P0, P1, majority, choice, dropped};
+
+// x turned left by k bits.
+pub fn turn_left(x: u32, k: u32) -> u32
+    requires { ⌜ (0 < k) × (k < 32) ⌝ }
+    ensures { λ r. ⌜ r ≡ turn k x ⌝ }
+{
+    (x << k) | (x >> (32 - k))
+}
+
+// P0, which a round applies to TT2.
+pub fn p0(x: u32) -> u32
+    ensures { λ r. ⌜ r ≡ P0 x ⌝ }
+{
+    x ^ turn_left(x, 9) ^ turn_left(x, 17)
+}
+
+// P1, which the expansion applies to q.
+pub fn p1(x: u32) -> u32
+    ensures { λ r. ⌜ r ≡ P1 x ⌝ }
+{
+    x ^ turn_left(x, 15) ^ turn_left(x, 23)
+}
+
+// FF of the rounds from 16 on: at each place what two or three of the bits are.
+pub fn majority_of(x: u32, y: u32, z: u32) -> u32
+    ensures { λ r. ⌜ r ≡ majority x y z ⌝ }
+{
+    (x & y) | (x & z) | (y & z)
+}
+
+// GG of the rounds from 16 on: y where x is 1, else z.
+pub fn choice_of(x: u32, y: u32, z: u32) -> u32
+    ensures { λ r. ⌜ r ≡ choice x y z ⌝ }
+{
+    z ^ (x & (y ^ z))
+}
+
+// The sum of three words, without what passes 2^32.
+pub fn sum_of_3(x: u32, y: u32, z: u32) -> u32
+    ensures { λ r. ⌜ r ≡ dropped (x + y + z) ⌝ }
+{
+    std::num::wrapping_add_u32(std::num::wrapping_add_u32(x, y), z)
+}
+
+// The sum of four words, without what passes 2^32.
+pub fn sum_of_4(x: u32, y: u32, z: u32, t: u32) -> u32
+    ensures { λ r. ⌜ r ≡ dropped (x + y + z + t) ⌝ }
+{
+    std::num::wrapping_add_u32(sum_of_3(x, y, z), t)
+}
