@@ -1,0 +1,40 @@
+-- The worked figures that document 01 marks P, one table: what the definitions give, beside the paper's figure. The
+-- definitions are the ones that the contracts cite.
+use mathlib.Core.List.{List, [], _∷_}
+use Prim.Native.Nat.{ℕ, _-_, _*_, _^_}
+use Rattle.field.specs.Field.{p, residue}
+use Rattle.sm3.specs.Digest.{digestAnswer, digestNumber}
+use Rattle.sm3.specs.Message.{blocks}
+use Rattle.sm3.specs.Sm3.{P0, P1, turnedConstant}
+
+pub record Figure : Type 0 where
+  pub computed : ℕ
+  pub stated : ℕ
+
+infix 30 _is_
+abbrev pub _is_ : ℕ → ℕ → Figure
+c is s = record { computed = c; stated = s }
+
+abbrev pub table : List Figure
+table =
+    -- "L 0 and 55 give 1 block; 56 and 119 give 2; 120 gives 3; 1,015 gives 16"
+    (blocks (8 * 0) is 1)
+    ∷ (blocks (8 * 55) is 1)
+    ∷ (blocks (8 * 56) is 2)
+    ∷ (blocks (8 * 119) is 2)
+    ∷ (blocks (8 * 120) is 3)
+    ∷ (blocks (8 * 1015) is 16)
+    -- "L 1,016 is refusal 2"
+    ∷ (digestNumber (digestAnswer 1016 32) is 2)
+    -- "2^60 × 2 reads as 1; entry p reads as 0; entry 2^64 - 1 reads as 7"
+    ∷ (residue (2 ^ 60 * 2) is 1)
+    ∷ (residue p is 0)
+    ∷ (residue (2 ^ 64 - 1) is 7)
+    -- "P0(1) = 00020201; P1(1) = 00808001 (hexadecimal)"
+    ∷ (P0 1 is 0x00020201)
+    ∷ (P1 1 is 0x00808001)
+    -- "T turned in round 1 is f3988a32, in 16 is 9d8a7a87, in 32 is 7a879d8a"
+    ∷ (turnedConstant 1 is 0xf3988a32)
+    ∷ (turnedConstant 16 is 0x9d8a7a87)
+    ∷ (turnedConstant 32 is 0x7a879d8a)
+    ∷ []
