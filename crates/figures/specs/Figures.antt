@@ -2,6 +2,9 @@
 -- definitions are the ones that the contracts cite.
 use mathlib.Core.List.{List, [], _∷_}
 use Prim.Native.Nat.{ℕ, _-_, _*_, _^_}
+use Rattle.circuit.specs.Layout.{wireCount}
+use Rattle.circuit.specs.Places.{rowCount}
+use Rattle.circuit.specs.RowAnswer.{rowAnswer, rowNumber}
 use Rattle.field.specs.Field.{p, residue}
 use Rattle.sm3.specs.Digest.{digestAnswer, digestNumber}
 use Rattle.sm3.specs.Message.{blocks}
@@ -26,6 +29,12 @@ table =
     ∷ (blocks (8 * 1015) is 16)
     -- "L 1,016 is refusal 2"
     ∷ (digestNumber (digestAnswer 1016 32) is 2)
+    ∷ (rowNumber (rowAnswer 1016 0 1956) is 2)
+    -- "L 0 has 23,041 wires and 32,832 rows; L 1,015 has 360,961 and 517,632"
+    ∷ (wireCount (8 * 0) is 23041)
+    ∷ (rowCount (8 * 0) is 32832)
+    ∷ (wireCount (8 * 1015) is 360961)
+    ∷ (rowCount (8 * 1015) is 517632)
     -- "2^60 × 2 reads as 1; entry p reads as 0; entry 2^64 - 1 reads as 7"
     ∷ (residue (2 ^ 60 * 2) is 1)
     ∷ (residue p is 0)

@@ -1,10 +1,16 @@
-// Compares the digests that `digest` gives with published ones and with another SM3's: a line of hexadecimal digits a
-// record, held against the file `stdout`.
+// Compares what the operations give with figures from outside, held against the file `stdout`: a line of hexadecimal
+// digits for each digest, then document 01's rows that are not proved.
 //
 // The first two lines are the standard's own examples: "abc", and "abcd" 16 times. The others are records of 0, 55, 56,
 // 63, 64, 119, 120 and 1,015 bytes whose byte k is k mod 251, and their digests are OpenSSL 3.0's:
 //     python3 -c 'import sys; sys.stdout.buffer.write(bytes(k % 251 for k in range(L)))' | openssl dgst -sm3
-ghost use Prim.Native.Nat.{_≤_};
+//
+// The rows are document 01's, each a line: the refusal's number, 0 for none, the counts of A, B and C, and three terms,
+// each a wire and a coefficient. Row 256 fixes wire 513 to 1 at L 0; at L 1 it is a bit row, with p - 1 on wire 0 in B; row
+// 32,576 at L 0 has wires 1 (1) and 22,785 (p - 1) in A; row 32,832 at L 0 is refusal 3.
+ghost use Prim.Native.Nat.{_≤_, _<_, _^_};
+use circuit::row::RowAnswer;
+use circuit::row::row;
 use libc::STDOUT_FILENO;
 
 // The hexadecimal digit of a number's lowest four bits.
@@ -14,7 +20,7 @@ fn hex_digit(x: u8) -> u8 {
 }
 
 // A digest as 64 hexadecimal digits and a line feed.
-fn print_hex(digest: &[u8; 32]) {
+fn print_digest(digest: &[u8; 32]) {
     let mut line = [10u8; 65];
     for k in 0..32 {
         line[2 * k] = hex_digit(digest[k] / 16);
@@ -27,7 +33,7 @@ fn print_hex(digest: &[u8; 32]) {
 fn show(bytes: &[u8]) {
     let mut out = [0u8; 32];
     sm3::digest::digest(bytes, &mut out);
-    print_hex(&out);
+    print_digest(&out);
 }
 
 // The record of n bytes whose byte k is k mod 251.
@@ -41,6 +47,62 @@ fn show_counted(n: usize)
     show(&bytes[..n]);
 }
 
+// A number in decimal, and a blank.
+fn print_number(x: u64) {
+    io::print_decimal(STDOUT_FILENO, x);
+    io::write_all(STDOUT_FILENO, b" ");
+}
+
+// A byte as a number.
+fn wide(x: u8) -> u64
+    ensures { λ r. ⌜ r < 256 ⌝ }
+{
+    x as u64
+}
+
+// The number in four bytes from `at` on, least byte first.
+fn four_bytes(bytes: &[u8; 1956], at: usize) -> u64
+    requires { ⌜ at < 1900 ⌝ }
+    ensures { λ r. ⌜ r < 2 ^ 32 ⌝ }
+{
+    wide(bytes[at])
+        + wide(bytes[at + 1]) * 256
+        + wide(bytes[at + 2]) * 65536
+        + wide(bytes[at + 3]) * 16777216
+}
+
+// The wire and the coefficient of the term in twelve bytes from `at` on.
+fn print_term(bytes: &[u8; 1956], at: usize)
+    requires { ⌜ at < 1800 ⌝ }
+{
+    print_number(four_bytes(bytes, at));
+    print_number(four_bytes(bytes, at + 4) + four_bytes(bytes, at + 8) * 4294967296);
+}
+
+// The counts of a row and its first three terms.
+fn print_row(a: u64, b: u64, c: u64, bytes: &[u8; 1956]) {
+    print_number(0);
+    print_number(a);
+    print_number(b);
+    print_number(c);
+    print_term(bytes, 0);
+    print_term(bytes, 12);
+    print_term(bytes, 24);
+}
+
+// The row of a number for a record of `size` bytes: the refusal's number, or 0, the counts and three terms.
+fn show_row(size: u64, number: u64) {
+    let mut out = [0u8; 1956];
+    let answer = row(size, number, &mut out);
+    match answer {
+        RowAnswer::Given { a, b, c } => print_row(a, b, c, &out),
+        RowAnswer::LengthAboveLimit => print_number(2),
+        RowAnswer::RowOutOfRange => print_number(3),
+        RowAnswer::BufferTooShort => print_number(4),
+    }
+    io::write_all(STDOUT_FILENO, b"\n");
+}
+
 fn main() {
     show(b"abc");
     show(b"abcdabcdabcdabcdabcdabcdabcdabcdabcdabcdabcdabcdabcdabcdabcdabcd");
@@ -52,4 +114,8 @@ fn main() {
     show_counted(119);
     show_counted(120);
     show_counted(1015);
+    show_row(0, 256);
+    show_row(1, 256);
+    show_row(0, 32576);
+    show_row(0, 32832);
 }

@@ -1,6 +1,7 @@
 // The constants of the rounds.
 ghost use mathlib.Core.Path.{_≡_};
-ghost use Rattle.sm3.specs.Sm3.{start, turnedConstant};
+ghost use Prim.Native.Nat.{_<_};
+ghost use Rattle.sm3.specs.Sm3.{start, turnedConstant, wordOf};
 ghost use Rattle.sm3.specs.Words.{tab};
 use crate::state::State;
 
@@ -105,4 +106,21 @@ pub fn turned_constants() -> [u32; 64]
     ensures { λ r. ⌜ r ≡ tab 64 turnedConstant ⌝ }
 {
     TURNED
+}
+
+// Word k of those that block 0 begins with.
+pub fn start_word(k: usize) -> u32
+    requires { ⌜ k < 8 ⌝ }
+    ensures { λ r. ⌜ r ≡ wordOf start k ⌝ }
+{
+    START[k]
+}
+
+// T of round j, turned.
+pub fn turned_constant(j: usize) -> u32
+    requires { ⌜ j < 64 ⌝ }
+    ensures { λ r. ⌜ r ≡ turnedConstant j ⌝ }
+{
+    let t = turned_constants();
+    t[j]
 }

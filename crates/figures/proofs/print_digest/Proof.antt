@@ -3,8 +3,8 @@ use mathlib.Core.Path.{_≡_}
 use Prim.Native.Nat.{_≤_, _-_}
 use lib.ListN.{length}
 use borrow.Author.Needs.{needs}
-use Rattle.figures.proofs.print_hex.Statement.{statement}
-use Rattle.figures.proofs.print_hex.Tie as tie
+use Rattle.figures.proofs.print_digest.Statement.{statement}
+use Rattle.figures.proofs.print_digest.Tie as tie
 
 abbrev Inv-loop : tie.InvT-loop
 Inv-loop digest line₀ k₀ line k = (k ≤ 32) × (length line ≡ 65)
@@ -60,8 +60,8 @@ write-all-requires c κs = search needs
 returns : tie.Need-returns Inv-loop μ-loop
 returns c = search needs
 
-pub print-hex-spec : {M : Type 1} → statement M
-print-hex-spec =
+pub print-digest-spec : {M : Type 1} → statement M
+print-digest-spec =
     tie.close
     (tie.spec
     Inv-loop

@@ -1,0 +1,27 @@
+-- What holds of each term of a list holds of each pair of numbers that hold it. By induction along the terms.
+use mathlib.Core.List.{List, [], _∷_}
+use mathlib.Core.Path.{_≡_}
+use Prim.Native.Nat.{ℕ, zero, suc, _+_, _*_, _<_, _≤_}
+use native.Mathlib.Omega.{arith}
+use lib.ListN.{getD, length, take}
+use lib.Seq.{getD-take}
+use Rattle.circuit.specs.Shape.{All}
+use Rattle.circuit.specs.Terms.{flat}
+use Rattle.circuit.specs.declared.form.Term.{Term}
+
+pub all-flat : (P : Term → Type 0) (ts : List Term) → All P ts → (i : ℕ) → i < length ts
+    → P (record { wire = record { 0 = getD (flat ts) (2 * i) 0 }; coefficient = getD (flat ts) (2 * i + 1) 0 })
+unfolding flat
+all-flat P [] a i h = absurd (omega arith)
+all-flat P (t ∷ ts) a zero h = a .0
+all-flat P (t ∷ ts) a (suc i) h =
+    let wire : 2 * suc i ≡ suc (suc (2 * i)) = omega arith in
+    let coefficient : 2 * suc i + 1 ≡ suc (suc (2 * i + 1)) = omega arith in
+    rw (coefficient, wire) (all-flat P ts (a .1) i (omega arith))
+
+-- .. and of each pair of numbers at the front of a buffer that begins with them
+pub all-front : (P : Term → Type 0) (ts : List Term) → All P ts → (l : List ℕ) (c : ℕ) → take (2 * c) l ≡ flat ts → c ≤ length ts
+    → (i : ℕ) → i < c → P (record { wire = record { 0 = getD l (2 * i) 0 }; coefficient = getD l (2 * i + 1) 0 })
+all-front P ts a l c e few i h =
+    rw (← getD-take (2 * c) l (2 * i) 0 (omega arith), ← getD-take (2 * c) l (2 * i + 1) 0 (omega arith), e)
+    (all-flat P ts a i (omega arith))

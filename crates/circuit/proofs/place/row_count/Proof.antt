@@ -1,0 +1,21 @@
+-- The code is the definition.
+use borrow.Author.Needs.{needs}
+use Rattle.circuit.specs.Places.{rowCount}
+use Rattle.circuit.proofs.place.row_count.Statement.{statement}
+use Rattle.circuit.proofs.place.row_count.Tie as tie
+
+blocks-of-requires : tie.Need-blocks-of-requires
+blocks-of-requires c κs = search needs
+
+mul-result : tie.Need-mul-result
+mul-result c = search needs
+
+add-result : tie.Need-add-result
+add-result c = search needs
+
+returns : tie.Need-returns
+unfolding rowCount
+returns c = search needs
+
+pub row-count-spec : {M : Type 1} → statement M
+row-count-spec = tie.close (tie.spec blocks-of-requires mul-result add-result returns)

@@ -1,0 +1,76 @@
+-- The code is the definition, with what the calls ensure put in.
+use mathlib.Core.Path.{_∙_, ap}
+use borrow.Author.Needs.{needs}
+use Rattle.circuit.specs.Circuit.{qForm}
+use Rattle.circuit.specs.Wires.{turnedBy}
+use Rattle.circuit.proofs.step_form.expansion.q_form.Statement.{statement}
+use Rattle.circuit.proofs.word_form.Laws.{same-pair}
+use Rattle.circuit.proofs.step_form.expansion.q_form.Tie as tie
+
+sub-expanded-word : tie.Need-sub-expanded-word
+sub-expanded-word c = search needs
+
+expanded-word-requires : tie.Need-expanded-word-requires
+expanded-word-requires c κs = search needs
+
+sub-expanded-word-2 : tie.Need-sub-expanded-word-2
+sub-expanded-word-2 c = search needs
+
+expanded-word-requires-2 : tie.Need-expanded-word-requires-2
+expanded-word-requires-2 c κs = search needs
+
+sub-expanded-word-3 : tie.Need-sub-expanded-word-3
+sub-expanded-word-3 c = search needs
+
+expanded-word-requires-3 : tie.Need-expanded-word-requires-3
+expanded-word-requires-3 c κs = search needs
+
+turned-requires : tie.Need-turned-requires
+turned-requires c κs = search needs
+
+add-word-from : tie.Need-add-word-from
+add-word-from c = search needs
+
+sub-word-from : tie.Need-sub-word-from
+sub-word-from c = search needs
+
+mul-word-from : tie.Need-mul-word-from
+mul-word-from c = search needs
+
+add-word-from-2 : tie.Need-add-word-from-2
+add-word-from-2 c = search needs
+
+word-from-requires : tie.Need-word-from-requires
+word-from-requires c κs = search needs
+
+pair-requires : tie.Need-pair-requires
+pair-requires c κs = search needs
+
+returns : tie.Need-returns
+unfolding qForm
+returns c =
+    let b = c .before in
+    let x = b .before .before .before .before .expanded-word .ensures .0 in
+    let y = b .before .before .before .expanded-word2 .ensures .0 in
+    let z = b .before .turned .ensures .0 ∙ ap (turnedBy 15) (b .before .before .expanded-word3 .ensures .0) in
+    let r = b .word-from .ensures .0 in
+    same-pair _ _ (c .pair .ensures) x y z r
+
+pub q-form-spec : {M : Type 1} → statement M
+q-form-spec =
+    tie.close
+    (tie.spec
+    sub-expanded-word
+    expanded-word-requires
+    sub-expanded-word-2
+    expanded-word-requires-2
+    sub-expanded-word-3
+    expanded-word-requires-3
+    turned-requires
+    add-word-from
+    sub-word-from
+    mul-word-from
+    add-word-from-2
+    word-from-requires
+    pair-requires
+    returns)

@@ -1,0 +1,76 @@
+-- The code is the definition, with what the calls ensure put in.
+use mathlib.Core.Path.{_∙_, ap}
+use borrow.Author.Needs.{needs}
+use Rattle.circuit.specs.Circuit.{wForm}
+use Rattle.circuit.specs.Wires.{turnedBy}
+use Rattle.circuit.proofs.step_form.expansion.w_form.Statement.{statement}
+use Rattle.circuit.proofs.word_form.Laws.{same-pair}
+use Rattle.circuit.proofs.step_form.expansion.w_form.Tie as tie
+
+add-word-from : tie.Need-add-word-from
+add-word-from c = search needs
+
+sub-word-from : tie.Need-sub-word-from
+sub-word-from c = search needs
+
+mul-word-from : tie.Need-mul-word-from
+mul-word-from c = search needs
+
+add-word-from-2 : tie.Need-add-word-from-2
+add-word-from-2 c = search needs
+
+add-word-from-3 : tie.Need-add-word-from-3
+add-word-from-3 c = search needs
+
+word-from-requires : tie.Need-word-from-requires
+word-from-requires c κs = search needs
+
+sub-expanded-word : tie.Need-sub-expanded-word
+sub-expanded-word c = search needs
+
+expanded-word-requires : tie.Need-expanded-word-requires
+expanded-word-requires c κs = search needs
+
+turned-requires : tie.Need-turned-requires
+turned-requires c κs = search needs
+
+sub-expanded-word-2 : tie.Need-sub-expanded-word-2
+sub-expanded-word-2 c = search needs
+
+expanded-word-requires-2 : tie.Need-expanded-word-requires-2
+expanded-word-requires-2 c κs = search needs
+
+expanded-word-requires-3 : tie.Need-expanded-word-requires-3
+expanded-word-requires-3 c κs = search needs
+
+pair-requires : tie.Need-pair-requires
+pair-requires c κs = search needs
+
+returns : tie.Need-returns
+unfolding wForm
+returns c =
+    let b = c .before in
+    let x = b .before .before .before .before .word-from .ensures .0 in
+    let y = b .before .before .turned .ensures .0 ∙ ap (turnedBy 7) (b .before .before .before .expanded-word .ensures .0) in
+    let z = b .before .expanded-word2 .ensures .0 in
+    let r = b .expanded-word3 .ensures .0 in
+    same-pair _ _ (c .pair .ensures) x y z r
+
+pub w-form-spec : {M : Type 1} → statement M
+w-form-spec =
+    tie.close
+    (tie.spec
+    add-word-from
+    sub-word-from
+    mul-word-from
+    add-word-from-2
+    add-word-from-3
+    word-from-requires
+    sub-expanded-word
+    expanded-word-requires
+    turned-requires
+    sub-expanded-word-2
+    expanded-word-requires-2
+    expanded-word-requires-3
+    pair-requires
+    returns)

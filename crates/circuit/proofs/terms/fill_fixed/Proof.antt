@@ -1,0 +1,37 @@
+-- A, B and C have one term each, and C has none where the bit is 0.
+use mathlib.Core.Path.{refl}
+use native.Mathlib.Omega.{arith}
+use borrow.Author.Needs.{needs}
+use Rattle.circuit.proofs.Appending.{filled, then}
+use Rattle.circuit.specs.Rows.{letters, nonzero, terms}
+use Rattle.circuit.specs.Terms.{unsorted}
+use Rattle.circuit.specs.declared.form.Form.the-variants.{Fixed}
+use Rattle.circuit.proofs.terms.fill_fixed.Statement.{statement}
+use Rattle.circuit.proofs.terms.fill_fixed.Tie as tie
+
+push-requires : tie.Need-push-requires
+push-requires c κs = search needs
+
+push-requires-2 : tie.Need-push-requires-2
+push-requires-2 c κs = search needs
+
+push-constant-requires : tie.Need-push-constant-requires
+push-constant-requires c κs = search needs
+
+same-length : tie.Need-same-length
+same-length c = search needs
+
+returns : tie.Need-returns
+unfolding letters nonzero terms unsorted
+returns c =
+    let third = c .before .before in
+    let second = third .before .before .before .before in
+    let first = second .before .before .before .before in
+    let at = first .before .before .before .args in
+    filled (unsorted (Fixed (at .w) (at .bit))) _
+    (then 2 refl (then 1 refl (first .push .ensures) (second .push2 .ensures)) (third .push-constant .ensures .2))
+    refl refl (third .push-constant .ensures .1) (omega (arith, third .push-constant .ensures .0))
+
+pub fill-fixed-spec : {M : Type 1} → statement M
+fill-fixed-spec =
+    tie.close (tie.spec push-requires push-requires-2 push-constant-requires same-length returns)

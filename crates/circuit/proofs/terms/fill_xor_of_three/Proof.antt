@@ -1,0 +1,65 @@
+-- The nine terms of an xor of three, in the letters' order.
+use mathlib.Core.Path.{refl}
+use borrow.Author.Needs.{needs}
+use lib.Dec.{lit≤}
+use Rattle.circuit.proofs.Appending.{filled, then}
+use Rattle.circuit.specs.Rows.{letters, nonzero, terms}
+use Rattle.circuit.specs.Terms.{unsorted}
+use Rattle.circuit.specs.declared.form.Form.the-variants.{XorOfThree}
+use Rattle.circuit.proofs.terms.fill_xor_of_three.Statement.{statement}
+use Rattle.circuit.proofs.terms.fill_xor_of_three.Tie as tie
+
+push-three-requires : tie.Need-push-three-requires
+push-three-requires c κs = search needs
+
+sub-t11 : tie.Need-sub-t11
+sub-t11 c = search needs
+
+push-requires : tie.Need-push-requires
+push-requires c κs = search needs
+
+push-three-requires-2 : tie.Need-push-three-requires-2
+push-three-requires-2 c κs = search needs
+
+sub-t11-2 : tie.Need-sub-t11-2
+sub-t11-2 c = search needs
+
+push-requires-2 : tie.Need-push-requires-2
+push-requires-2 c κs = search needs
+
+sub-t11-3 : tie.Need-sub-t11-3
+sub-t11-3 c = search needs
+
+push-requires-3 : tie.Need-push-requires-3
+push-requires-3 c κs = search needs
+
+same-length : tie.Need-same-length
+same-length c = search needs
+
+returns : tie.Need-returns
+unfolding letters nonzero terms unsorted
+returns c =
+    let fifth = c .before .before in
+    let fourth = fifth .before .before .before .before in
+    let third = fourth .before .before .before .before in
+    let second = third .before .before .before .before in
+    let first = second .before .before .before .before in
+    let at = first .before .before .before .args in
+    filled (unsorted (XorOfThree (at .x) (at .y) (at .z) (at .r))) _
+    (then 8 refl (then 7 refl (then 4 refl (then 3 refl (first .push-three .ensures) (second .push .ensures)) (third .push-three2 .ensures)) (fourth .push2 .ensures)) (fifth .push3 .ensures))
+    refl refl refl (lit≤ tt)
+
+pub fill-xor-of-three-spec : {M : Type 1} → statement M
+fill-xor-of-three-spec =
+    tie.close
+    (tie.spec
+    push-three-requires
+    sub-t11
+    push-requires
+    push-three-requires-2
+    sub-t11-2
+    push-requires-2
+    sub-t11-3
+    push-requires-3
+    same-length
+    returns)

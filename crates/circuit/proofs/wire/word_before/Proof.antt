@@ -1,0 +1,70 @@
+-- The word's first wire is what `origin` gives, and `word-placed` has its turn in each of the three cases.
+use mathlib.Core.Path.{_≡_, _∙_, ap}
+use Prim.Native.Nat.{_+_, _-_, _*_, _/_, _%_}
+use native.Mathlib.Omega.{arith}
+use borrow.Author.Needs.{needs}
+use Rattle.circuit.specs.Wires.{turnedBy}
+use Rattle.circuit.proofs.wire.Laws.{word-known, word-placed}
+use Rattle.circuit.proofs.wire.word_before.Statement.{statement}
+use Rattle.circuit.proofs.wire.word_before.Tie as tie
+
+origin-requires : tie.Need-origin-requires
+origin-requires c κs = search needs
+
+word-from-requires : tie.Need-word-from-requires
+word-from-requires c κs = search needs
+
+returns : tie.Need-returns
+returns c =
+    let b = c .before .before in
+    let a = b .before .args in
+    let turn = word-placed (a .first) (a .first - 256) (a .j) (a .k) (search needs) .straight (c .if1 .taken) in
+    (c .before .word-from .ensures .0 ∙ word-known _ _ 0 (b .origin .ensures .0) turn, c .before .word-from .ensures .1)
+
+add-if2 : tie.Need-add-if2
+add-if2 c = search needs
+
+returns-2 : tie.Need-returns-2
+returns-2 c =
+    let b = c .before .before .before in
+    let a = b .before .args in
+    let turn = word-placed (a .first) (a .first - 256) (a .j) (a .k) (search needs) .early (c .if2 .taken) in
+    (c .before .before .word-from .ensures .0 ∙ word-known _ _ 0 (b .origin .ensures .0) turn, c .before .before .word-from .ensures .1)
+
+mul-turned : tie.Need-mul-turned
+mul-turned c = search needs
+
+add-turned : tie.Need-add-turned
+add-turned c = search needs
+
+turned-requires : tie.Need-turned-requires
+turned-requires c κs = search needs
+
+returns-3 : tie.Need-returns-3
+returns-3 c =
+    let b = c .before .before .before .before in
+    let a = b .before .args in
+    let t = 9 + 10 * (a .k / 4) in
+    let turn =
+    word-placed (a .first) (a .first - 256) (a .j) (a .k) (search needs) .turned (c .before .before .if1 .left)
+    (c .before .if2 .left) in
+    let once : t ≡ (0 + t) % 32 = omega arith in (
+      c .turned .ensures .0
+          ∙ ap (turnedBy t) (c .before .before .before .word-from .ensures .0)
+          ∙ word-known _ _ _ (b .origin .ensures .0) (turn ∙ once),
+      c .turned .ensures .1,
+    )
+
+pub word-before-spec : {M : Type 1} → statement M
+word-before-spec =
+    tie.close
+    (tie.spec
+    origin-requires
+    word-from-requires
+    returns
+    add-if2
+    returns-2
+    mul-turned
+    add-turned
+    turned-requires
+    returns-3)

@@ -1,0 +1,74 @@
+-- A record's wires, worked out from the record alone (document 01, "Wires" and "The words of demand 3"). The record is
+-- n bits r; place w of `wireOf n r` is the value of wire w.
+use mathlib.Core.List.{List}
+use Prim.Native.Nat.{ℕ, _+_, _-_, _*_, _/_, _%_, _^_}
+use lib.ListN.{getD}
+use Rattle.circuit.specs.Sequence.{beside, grid}
+use Rattle.sm3.specs.Message.{blockBits, blocks, chain, digestOf, message}
+use Rattle.sm3.specs.Sm3.{FF, GG, P0, P1, SS2, block, dropped, expansion, mixed, pairWord, rounds, start, sumTT1, sumTT2, sumU, wordOf}
+use Rattle.sm3.specs.Words.{bit}
+use Rattle.sm3.specs.declared.state.State.{State}
+
+-- "A word's wires run from the highest bit": the 32 wires of a word
+unfoldable pub wordWires : ℕ → ℕ → ℕ
+wordWires x i = bit i x
+
+-- "The 2 carries .. are the two bits of floor(s / 2^32), the higher first; s is the sum with nothing dropped"
+unfoldable pub carryWires : ℕ → ℕ → ℕ
+carryWires s i = s / 2 ^ 32 / 2 ^ (1 - i) % 2
+
+-- a sum's word and its 2 carries
+unfoldable pub sumWires : ℕ → ℕ → ℕ
+sumWires s = beside 32 (wordWires (dropped s)) (carryWires s)
+
+-- the words of a state, A to H
+unfoldable pub stateWires : State → ℕ → ℕ
+stateWires s = grid 32 (λ k. wordWires (wordOf s k))
+
+-- "for each j from 16 to 67: q, P1(q), Wj", of the expansion w
+unfoldable pub expansionWires : List ℕ → ℕ → ℕ → ℕ
+expansionWires w j =
+    beside 32 (wordWires (mixed w j))
+    (beside 32 (wordWires (P1 (mixed w j)))
+    (wordWires (getD w j 0)))
+
+-- "for each round: u and its 2 carries, SS2, FF, GG, TT1 and 2 carries, TT2 and 2 carries, P0(TT2)", of round j on s
+unfoldable pub roundWires : List ℕ → ℕ → State → ℕ → ℕ
+roundWires w j s =
+    beside 34 (sumWires (sumU j s))
+    (beside 32 (wordWires (SS2 j s))
+    (beside 32 (wordWires (FF j (s .a) (s .b) (s .c)))
+    (beside 32 (wordWires (GG j (s .e) (s .f) (s .g)))
+    (beside 34 (sumWires (sumTT1 j (pairWord w j) s))
+    (beside 34 (sumWires (sumTT2 j (getD w j 0) s))
+    (wordWires (P0 (dropped (sumTT2 j (getD w j 0) s)))))))))
+
+-- the 22,528 wires of a block with the 512 bits b that begins with the words v: "512 block bits; for each j from 16 to
+-- 67 ..; W'0 to W'63; for each round ..; the 8 result words"
+unfoldable pub blockWires : (ℕ → ℕ) → State → ℕ → ℕ
+blockWires b v =
+    beside 512 b
+    (beside 4992 (grid 96 (λ j. expansionWires (expansion b 68) (16 + j)))
+    (beside 2048 (grid 32 (λ j. wordWires (pairWord (expansion b 68) j)))
+    (beside 14720 (grid 230 (λ j. roundWires (expansion b 68) j (rounds (expansion b 68) v j)))
+    (stateWires (block b v)))))
+
+-- the block wires of a message m, block after block
+unfoldable pub messageWires : (ℕ → ℕ) → ℕ → ℕ
+messageWires m = grid 22528 (λ i. blockWires (blockBits m i) (chain m i))
+
+-- "Wire 0 is the constant 1. Wires 1 to 256: digest. 257 to 512: start words. Then 22,528 a block"
+unfoldable pub wireOf : ℕ → (ℕ → ℕ) → ℕ → ℕ
+wireOf n r =
+    beside 1 (λ k. 1)
+    (beside 256 (stateWires (digestOf n r))
+    (beside 256 (stateWires start)
+    (messageWires (message n r))))
+
+-- "Wires in all: 513 + 22,528 × n", for a record of n bits
+unfoldable pub wireCount : ℕ → ℕ
+wireCount n = 513 + 22528 * blocks n
+
+-- "those before bit 8 × L of the message are the record wires": the wire of record bit k
+unfoldable pub recordWire : ℕ → ℕ
+recordWire k = 513 + 22528 * (k / 512) + k % 512

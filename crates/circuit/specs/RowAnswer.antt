@@ -1,0 +1,61 @@
+-- The answer of `row` and the bytes that it leaves (document 01, "Rows" and "Refusals in checking order").
+use mathlib.Core.Bool.{cond}
+use mathlib.Core.List.{List, [], _∷_, _++_}
+use Prim.Native.Nat.{ℕ, _*_, _/_, _%_, _^_}
+use lib.Dec.{leb, ltb}
+use lib.ListN.{drop, length}
+use Rattle.circuit.specs.Circuit.{rowAt}
+use Rattle.circuit.specs.Places.{rowCount}
+use Rattle.circuit.specs.Rows.{Row, terms}
+use Rattle.circuit.specs.declared.form.Term.{Term}
+use Rattle.circuit.specs.declared.row.RowAnswer.{RowAnswer}
+use Rattle.circuit.specs.declared.row.RowAnswer.the-variants.{Given, LengthAboveLimit, RowOutOfRange, BufferTooShort}
+use Rattle.sm3.specs.Digest.{longest}
+use Rattle.sm3.specs.Words.{tab}
+
+-- "least byte first"
+unfoldable pub leastFirst : ℕ → ℕ → List ℕ
+leastFirst n x = tab n (λ i. x / 256 ^ i % 256)
+
+-- "12 bytes each (wire 4, coefficient 8, least byte first)"
+unfoldable pub termBytes : Term → List ℕ
+termBytes t = leastFirst 4 (t .wire .0) ++ leastFirst 8 (t .coefficient)
+
+unfoldable pub termsBytes : List Term → List ℕ
+termsBytes [] = []
+termsBytes (t ∷ ts) = termBytes t ++ termsBytes ts
+
+-- "A row is handed over as the terms of A, then B, then C, .. with three counts", for row k of a record of `size` bytes
+-- and a buffer of `room` bytes: "2. The record length is above 1,015." "3. The row number is not below the row count."
+-- "4. The buffer to be written is shorter than .. 1,956 for a row"
+unfoldable pub counted : Row → RowAnswer
+counted r = Given (length (r .A)) (length (r .B)) (length (r .C))
+
+unfoldable pub rowAnswer : ℕ → ℕ → ℕ → RowAnswer
+rowAnswer size k room =
+    cond (ltb longest size) LengthAboveLimit
+    (cond (leb (rowCount (8 * size)) k) RowOutOfRange
+    (cond (ltb room 1956) BufferTooShort
+    (counted (rowAt (8 * size) k))))
+
+-- what is left in the buffer: the terms' bytes and the bytes past them, which "keep their value"; "no lent byte changes"
+-- on a refusal
+unfoldable pub rowLeft : RowAnswer → ℕ → ℕ → List ℕ → List ℕ
+rowLeft (Given a b c) size k out =
+    termsBytes (terms (rowAt (8 * size) k)) ++ drop (12 * length (terms (rowAt (8 * size) k))) out
+rowLeft LengthAboveLimit size k out = out
+rowLeft RowOutOfRange size k out = out
+rowLeft BufferTooShort size k out = out
+
+-- the paper's number of each answer, 0 for none, and its values: the three counts
+abbrev pub rowNumber : RowAnswer → ℕ
+rowNumber (Given a b c) = 0
+rowNumber LengthAboveLimit = 2
+rowNumber RowOutOfRange = 3
+rowNumber BufferTooShort = 4
+
+abbrev pub rowValues : RowAnswer → List ℕ
+rowValues (Given a b c) = a ∷ b ∷ c ∷ []
+rowValues LengthAboveLimit = []
+rowValues RowOutOfRange = []
+rowValues BufferTooShort = []

@@ -1,0 +1,30 @@
+-- The shape of every row (document 01, "Rows").
+use mathlib.Core.List.{List, [], _∷_}
+use Prim.Native.Nat.{ℕ, _<_, _≤_}
+use lib.ListN.{length}
+use Rattle.circuit.specs.Layout.{wireCount}
+use Rattle.circuit.specs.Rows.{Row, terms}
+use Rattle.circuit.specs.declared.form.Term.{Term}
+use Rattle.field.specs.Field.{p}
+
+-- P holds of each one of a list; R holds of each one and every one after it
+abbrev pub All : {A : Type 0} → (A → Type 0) → List A → Type 0
+All P [] = Unit {0}
+All P (x ∷ xs) = P x × All P xs
+
+abbrev pub Pairwise : {A : Type 0} → (A → A → Type 0) → List A → Type 0
+Pairwise R [] = Unit {0}
+Pairwise R (x ∷ xs) = All (R x) xs × Pairwise R xs
+
+-- "Terms stand by rising wire"
+abbrev pub Rising : List Term → Type 0
+Rising ts = Pairwise (λ t u. t .wire .0 < u .wire .0) ts
+
+-- ".., coefficients from 1 to p - 1, zero ones omitted. No row has over 163 terms.": a row of a record of n bits
+pub record Shaped (n : ℕ) (r : Row) : Type 0 where
+  pub a : Rising (r .A)
+  pub b : Rising (r .B)
+  pub c : Rising (r .C)
+  pub wires : All (λ t. t .wire .0 < wireCount n) (terms r)
+  pub coefficients : All (λ t. (1 ≤ t .coefficient) × (t .coefficient < p)) (terms r)
+  pub few : length (terms r) ≤ 163

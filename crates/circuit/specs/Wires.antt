@@ -1,0 +1,129 @@
+-- Where words stand: the number of each word's first wire (document 01, "Wires"). F is the first wire of a block.
+use mathlib.Core.Bool.{cond}
+use Prim.Native.Nat.{ℕ, zero, suc, _+_, _-_, _*_, _%_, _<_}
+use lib.Dec.{ltb}
+use Rattle.circuit.specs.declared.wire.WireNumber.{WireNumber}
+use Rattle.circuit.specs.declared.wire.WordWires.{WordWires}
+
+-- "Wire 0 is the constant 1"
+abbrev pub one : WireNumber
+one = record { 0 = 0 }
+
+-- the wire that is i past w
+abbrev pub at : WireNumber → ℕ → WireNumber
+at w i = record { 0 = w .0 + i }
+
+-- "A turned word is the same wires in another order": a word that stands from wire w on, and the same turned by k more
+abbrev pub standing : ℕ → WordWires
+standing w = record { first = record { 0 = w }; turn = 0 }
+
+abbrev pub turnedBy : ℕ → WordWires → WordWires
+turnedBy k x = record { first = x .first; turn = (x .turn + k) % 32 }
+
+-- what the code keeps to, so that no number of a wire overflows
+pub record Within (x : WordWires) : Type 0 where
+  pub first : x .first .0 < 1000000
+  pub turn : x .turn < 32
+
+-- the wire of bit i
+abbrev pub wireAt : WordWires → ℕ → WireNumber
+wireAt x i = at (x .first) ((i + x .turn) % 32)
+
+-- "Wires 1 to 256: digest. 257 to 512: start words. Then 22,528 a block"
+abbrev pub digestFirst : ℕ
+digestFirst = 1
+
+abbrev pub startFirst : ℕ
+startFirst = 257
+
+abbrev pub blockFirst : ℕ → ℕ
+blockFirst i = 513 + 22528 * i
+
+-- "512 block bits"; "for each j from 16 to 67: q, P1(q), Wj"
+abbrev pub qFirst : ℕ → ℕ → ℕ
+qFirst F j = F + 512 + 96 * (j - 16)
+
+abbrev pub p1First : ℕ → ℕ → ℕ
+p1First F j = qFirst F j + 32
+
+abbrev pub wFirst : ℕ → ℕ → ℕ
+wFirst F j = cond (ltb j 16) (F + 32 * j) (qFirst F j + 64)
+
+-- "W'0 to W'63"
+abbrev pub wPrimeFirst : ℕ → ℕ → ℕ
+wPrimeFirst F j = F + 5504 + 32 * j
+
+-- "for each round: u and its 2 carries, SS2, FF, GG, TT1 and 2 carries, TT2 and 2 carries, P0(TT2)"
+abbrev pub uFirst : ℕ → ℕ → ℕ
+uFirst F j = F + 7552 + 230 * j
+
+abbrev pub ss2First : ℕ → ℕ → ℕ
+ss2First F j = uFirst F j + 34
+
+abbrev pub ffFirst : ℕ → ℕ → ℕ
+ffFirst F j = uFirst F j + 66
+
+abbrev pub ggFirst : ℕ → ℕ → ℕ
+ggFirst F j = uFirst F j + 98
+
+abbrev pub tt1First : ℕ → ℕ → ℕ
+tt1First F j = uFirst F j + 130
+
+abbrev pub tt2First : ℕ → ℕ → ℕ
+tt2First F j = uFirst F j + 164
+
+abbrev pub p0First : ℕ → ℕ → ℕ
+p0First F j = uFirst F j + 198
+
+-- "the 8 result words"
+abbrev pub resultFirst : ℕ → ℕ → ℕ
+resultFirst F k = F + 22272 + 32 * k
+
+-- Where A to H stand.
+pub record StateWires : Type 0 where
+  pub a : WordWires
+  pub b : WordWires
+  pub c : WordWires
+  pub d : WordWires
+  pub e : WordWires
+  pub f : WordWires
+  pub g : WordWires
+  pub h : WordWires
+
+-- the eight words that stand one after the other from wire w on
+unfoldable pub eightFrom : ℕ → StateWires
+eightFrom w =
+    record {
+      a = standing w;
+      b = standing (w + 32);
+      c = standing (w + 64);
+      d = standing (w + 96);
+      e = standing (w + 128);
+      f = standing (w + 160);
+      g = standing (w + 192);
+      h = standing (w + 224);
+    }
+
+-- after round j of the block whose first wire is F: "Then D = C, C = B<<<9, B = A, A = TT1, H = G, G = F<<<19, F = E,
+-- E = P0(TT2)"
+unfoldable pub moved : ℕ → ℕ → StateWires → StateWires
+moved F j s =
+    record {
+      a = standing (tt1First F j);
+      b = s .a;
+      c = turnedBy 9 (s .b);
+      d = s .c;
+      e = standing (p0First F j);
+      f = s .e;
+      g = turnedBy 19 (s .f);
+      h = s .g;
+    }
+
+-- before round j of a block that begins with the words at v
+unfoldable pub stands : ℕ → StateWires → ℕ → StateWires
+stands F v zero = v
+stands F v (suc j) = moved F j (stands F v j)
+
+-- .. where these are the 256 wires before the block's first, as they are for every block of a record
+abbrev pub standsBefore : ℕ → ℕ → StateWires
+standsBefore F j = stands F (eightFrom (F - 256)) j

@@ -1,0 +1,70 @@
+// The form of a row, by its place and by its number.
+ghost use mathlib.Core.Path.{_≡_};
+ghost use Prim.Native.Nat.{_<_, _≤_};
+ghost use Rattle.circuit.specs.Circuit.{formAt, formOf};
+ghost use Rattle.circuit.specs.Places.{rowCount};
+ghost use Rattle.circuit.specs.Ranges.{InRecord};
+ghost use Rattle.circuit.specs.Terms.{Fit};
+
+pub mod ends;
+pub mod expansion;
+pub mod round;
+
+use crate::form::Form;
+use crate::place::Place;
+use crate::place::RowNumber;
+use crate::place::Step;
+use crate::place::place_of;
+use ends::digest_form;
+use ends::message_form;
+use ends::result_form;
+use ends::start_form;
+use expansion::p1_form;
+use expansion::q_form;
+use expansion::w_form;
+use expansion::w_prime_form;
+use round::ff_form;
+use round::gg_form;
+use round::p0_form;
+use round::ss2_form;
+use round::tt1_form;
+use round::tt2_form;
+use round::u_form;
+
+// The form of the row at a place, for a record of so many bits.
+pub fn form_of(bits: u64, place: Place) -> Form
+    requires { ⌜ (bits ≤ 8127) × InRecord bits place ⌝ }
+    ensures { λ f. ⌜ (f ≡ formOf bits (place .block) (place .step) (place .index) (place .line)) × Fit f ⌝ }
+{
+    let i = place.block;
+    let j = place.index;
+    let l = place.line;
+    let first = 513 + 22528 * i;
+    let step = place.step;
+    match step {
+        Step::Start => start_form(j, l),
+        Step::Message => message_form(bits, i, j, l),
+        Step::Q => q_form(first, j, l),
+        Step::P1 => p1_form(first, j, l),
+        Step::W => w_form(first, j, l),
+        Step::WPrime => w_prime_form(first, j, l),
+        Step::U => u_form(first, j, l),
+        Step::Ss2 => ss2_form(first, j, l),
+        Step::Ff => ff_form(first, j, l),
+        Step::Gg => gg_form(first, j, l),
+        Step::Tt1 => tt1_form(first, j, l),
+        Step::Tt2 => tt2_form(first, j, l),
+        Step::P0 => p0_form(first, j, l),
+        Step::Result => result_form(first, j, l),
+        Step::Digest => digest_form(bits, j, l),
+    }
+}
+
+// The form of a row of a record of so many bits.
+pub fn form_at(bits: u64, row: RowNumber) -> Form
+    requires { ⌜ (bits ≤ 8127) × (row .0 < rowCount bits) ⌝ }
+    ensures { λ f. ⌜ (f ≡ formAt bits (row .0)) × Fit f ⌝ }
+{
+    let place = place_of(bits, row);
+    form_of(bits, place)
+}

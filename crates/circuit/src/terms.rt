@@ -1,0 +1,491 @@
+// The terms of a row form, in a lent buffer of numbers: wire, coefficient, wire, coefficient, ..
+ghost use mathlib.Core.Bool.{cond};
+ghost use mathlib.Core.List.{[], _∷_, _++_};
+ghost use mathlib.Core.Path.{_≡_};
+ghost use Prim.Native.Nat.{ℕ, _+_, _-_, _*_, _<_, _≤_, _^_};
+ghost use lib.ListN.{length};
+ghost use Rattle.circuit.specs.Rows.{_·_, addendTerms, less, nonzero, taken, weighted};
+ghost use Rattle.circuit.specs.Terms.{Appended, Few, Filled, Fit, unsorted};
+ghost use Rattle.circuit.specs.Wires.{Within, at, one};
+ghost use Rattle.circuit.specs.declared.form.Form.the-variants.{Bit, Choice, Equal, Fixed, Majority, Sum, XorOfThree, XorOfTwo};
+ghost use Rattle.sm3.specs.Words.{tab};
+use crate::form::Addends;
+use crate::form::Form;
+use crate::form::Term;
+use crate::wire::WireNumber;
+use crate::wire::WordWires;
+use crate::wire::wire_of_bit;
+use crate::wire::wire_past;
+use field::P;
+
+// How many terms A, B and C have.
+pub struct Counts {
+    pub a: usize,
+    pub b: usize,
+    pub c: usize,
+}
+
+// Writes a term behind the first n.
+fn push(terms: &mut [u64], n: usize, term: Term)
+    requires { ⌜ 2 * n + 2 ≤ length (now terms) ⌝ }
+    ensures { λ _. ⌜ Appended n (term ∷ []) (now (terms .entry)) (now (terms .exit)) ⌝ }
+{
+    let wire = term.wire;
+    terms[2 * n] = wire.0;
+    terms[2 * n + 1] = term.coefficient;
+}
+
+// Writes k times wire 0 behind the first n terms, unless k is 0; how many terms that is.
+fn push_constant(terms: &mut [u64], n: usize, k: u64) -> usize
+    requires { ⌜ 2 * n + 2 ≤ length (now terms) ⌝ }
+    ensures { λ r. ⌜ (r ≤ 1) × (r ≡ length (nonzero (k · one ∷ []))) × Appended n (nonzero (k · one ∷ [])) (now (terms .entry)) (now (terms .exit)) ⌝ }
+{
+    if k == 0 {
+        return 0;
+    }
+    push(
+        terms,
+        n,
+        Term {
+            wire: WireNumber(0),
+            coefficient: k,
+        },
+    );
+    1
+}
+
+// Writes k times each of three wires behind the first n terms.
+fn push_three(terms: &mut [u64], n: usize, k: u64, x: WireNumber, y: WireNumber, z: WireNumber)
+    requires { ⌜ 2 * n + 6 ≤ length (now terms) ⌝ }
+    ensures { λ _. ⌜ Appended n (k · x ∷ k · y ∷ k · z ∷ []) (now (terms .entry)) (now (terms .exit)) ⌝ }
+{
+    push(
+        terms,
+        n,
+        Term {
+            wire: x,
+            coefficient: k,
+        },
+    );
+    push(
+        terms,
+        n + 1,
+        Term {
+            wire: y,
+            coefficient: k,
+        },
+    );
+    push(
+        terms,
+        n + 2,
+        Term {
+            wire: z,
+            coefficient: k,
+        },
+    );
+}
+
+// Writes a word's wires with their weights behind the first n terms.
+fn push_word(terms: &mut [u64], n: usize, x: WordWires)
+    requires { ⌜ (2 * n + 64 ≤ length (now terms)) × Within x ⌝ }
+    ensures { λ _. ⌜ Appended n (weighted x) (now (terms .entry)) (now (terms .exit)) ⌝ }
+{
+    let mut weight: u64 = 2147483648;
+    for i in 0..32 {
+        push(
+            terms,
+            n + i as usize,
+            Term {
+                wire: wire_of_bit(x, i),
+                coefficient: weight,
+            },
+        );
+        weight = weight / 2;
+    }
+}
+
+// Takes off the 32 wires of a result from r on, with their weights, behind the first n terms.
+fn push_result(terms: &mut [u64], n: usize, r: WireNumber)
+    requires { ⌜ (2 * n + 64 ≤ length (now terms)) × (r .0 < 1000000) ⌝ }
+    ensures { λ _. ⌜ Appended n (tab 32 (λ (i : ℕ). less (2 ^ (31 - i)) · at r i)) (now (terms .entry)) (now (terms .exit)) ⌝ }
+{
+    let mut weight: u64 = 2147483648;
+    for i in 0..32 {
+        push(
+            terms,
+            n + i as usize,
+            Term {
+                wire: wire_past(r, i),
+                coefficient: P - weight,
+            },
+        );
+        weight = weight / 2;
+    }
+}
+
+// Takes off a result and its carries, which weigh 2^33 and 2^32, behind the first n terms.
+fn push_taken(terms: &mut [u64], n: usize, r: WireNumber)
+    requires { ⌜ (2 * n + 68 ≤ length (now terms)) × (r .0 < 1000000) ⌝ }
+    ensures { λ _. ⌜ Appended n (taken r) (now (terms .entry)) (now (terms .exit)) ⌝ }
+{
+    push_result(terms, n, r);
+    push(
+        terms,
+        n + 32,
+        Term {
+            wire: wire_past(r, 32),
+            coefficient: P - 8589934592,
+        },
+    );
+    push(
+        terms,
+        n + 33,
+        Term {
+            wire: wire_past(r, 33),
+            coefficient: P - 4294967296,
+        },
+    );
+}
+
+// Writes the words that are added up; how many terms that is.
+fn push_addends(terms: &mut [u64], s: Addends) -> usize
+    requires { ⌜ (256 ≤ length (now terms)) × Within (s .x) × Within (s .y) × Within (s .z) × Within (s .t) ⌝ }
+    ensures { λ r. ⌜ (r ≤ 128) × (r ≡ length (addendTerms s)) × Appended 0 (addendTerms s) (now (terms .entry)) (now (terms .exit)) ⌝ }
+{
+    let x = s.x;
+    push_word(terms, 0, x);
+    let y = s.y;
+    push_word(terms, 32, y);
+    let four = s.four;
+    if four {
+        let z = s.z;
+        push_word(terms, 64, z);
+        let t = s.t;
+        push_word(terms, 96, t);
+        return 128;
+    }
+    64
+}
+
+// Writes the words that are added up and the constant, which four words do not have; how many terms that is.
+fn push_summands(terms: &mut [u64], s: Addends, constant: u64) -> usize
+    requires { ⌜ (326 ≤ length (now terms)) × Within (s .x) × Within (s .y) × Within (s .z) × Within (s .t) × (cond (s .four) constant 0 ≡ 0) ⌝ }
+    ensures { λ r. ⌜ (r ≤ 128) × (r ≡ length (addendTerms s ++ nonzero (constant · one ∷ []))) × Appended 0 (addendTerms s ++ nonzero (constant · one ∷ [])) (now (terms .entry)) (now (terms .exit)) ⌝ }
+{
+    let n = push_addends(terms, s);
+    n + push_constant(terms, n, constant)
+}
+
+// w × 1 = bit
+fn fill_fixed(terms: &mut [u64], w: WireNumber, bit: u64) -> Counts
+    requires { ⌜ 326 ≤ length (now terms) ⌝ }
+    ensures { λ r. ⌜ Filled (unsorted (Fixed w bit)) r (now (terms .entry)) (now (terms .exit)) ⌝ }
+{
+    push(
+        terms,
+        0,
+        Term {
+            wire: w,
+            coefficient: 1,
+        },
+    );
+    push(
+        terms,
+        1,
+        Term {
+            wire: WireNumber(0),
+            coefficient: 1,
+        },
+    );
+    let c = push_constant(terms, 2, bit);
+    Counts { a: 1, b: 1, c }
+}
+
+// w × (w - 1) = 0
+fn fill_bit(terms: &mut [u64], w: WireNumber) -> Counts
+    requires { ⌜ 326 ≤ length (now terms) ⌝ }
+    ensures { λ r. ⌜ Filled (unsorted (Bit w)) r (now (terms .entry)) (now (terms .exit)) ⌝ }
+{
+    push(
+        terms,
+        0,
+        Term {
+            wire: w,
+            coefficient: 1,
+        },
+    );
+    push(
+        terms,
+        1,
+        Term {
+            wire: w,
+            coefficient: 1,
+        },
+    );
+    push(
+        terms,
+        2,
+        Term {
+            wire: WireNumber(0),
+            coefficient: P - 1,
+        },
+    );
+    Counts { a: 1, b: 2, c: 0 }
+}
+
+// 2x × y = x + y - r
+fn fill_xor_of_two(terms: &mut [u64], x: WireNumber, y: WireNumber, r: WireNumber) -> Counts
+    requires { ⌜ 326 ≤ length (now terms) ⌝ }
+    ensures { λ counts. ⌜ Filled (unsorted (XorOfTwo x y r)) counts (now (terms .entry)) (now (terms .exit)) ⌝ }
+{
+    push(
+        terms,
+        0,
+        Term {
+            wire: x,
+            coefficient: 2,
+        },
+    );
+    push(
+        terms,
+        1,
+        Term {
+            wire: y,
+            coefficient: 1,
+        },
+    );
+    push(
+        terms,
+        2,
+        Term {
+            wire: x,
+            coefficient: 1,
+        },
+    );
+    push(
+        terms,
+        3,
+        Term {
+            wire: y,
+            coefficient: 1,
+        },
+    );
+    push(
+        terms,
+        4,
+        Term {
+            wire: r,
+            coefficient: P - 1,
+        },
+    );
+    Counts { a: 1, b: 1, c: 3 }
+}
+
+// (x + y + z - r) × (x + y + z - r - 2) = 0
+fn fill_xor_of_three(
+    terms: &mut [u64],
+    x: WireNumber,
+    y: WireNumber,
+    z: WireNumber,
+    r: WireNumber,
+) -> Counts
+    requires { ⌜ 326 ≤ length (now terms) ⌝ }
+    ensures { λ counts. ⌜ Filled (unsorted (XorOfThree x y z r)) counts (now (terms .entry)) (now (terms .exit)) ⌝ }
+{
+    push_three(terms, 0, 1, x, y, z);
+    push(
+        terms,
+        3,
+        Term {
+            wire: r,
+            coefficient: P - 1,
+        },
+    );
+    push_three(terms, 4, 1, x, y, z);
+    push(
+        terms,
+        7,
+        Term {
+            wire: r,
+            coefficient: P - 1,
+        },
+    );
+    push(
+        terms,
+        8,
+        Term {
+            wire: WireNumber(0),
+            coefficient: P - 2,
+        },
+    );
+    Counts { a: 4, b: 5, c: 0 }
+}
+
+// (x + y + z - 2r) × (1 - x - y - z + 2r) = 0
+fn fill_majority(
+    terms: &mut [u64],
+    x: WireNumber,
+    y: WireNumber,
+    z: WireNumber,
+    r: WireNumber,
+) -> Counts
+    requires { ⌜ 326 ≤ length (now terms) ⌝ }
+    ensures { λ counts. ⌜ Filled (unsorted (Majority x y z r)) counts (now (terms .entry)) (now (terms .exit)) ⌝ }
+{
+    push_three(terms, 0, 1, x, y, z);
+    push(
+        terms,
+        3,
+        Term {
+            wire: r,
+            coefficient: P - 2,
+        },
+    );
+    push(
+        terms,
+        4,
+        Term {
+            wire: WireNumber(0),
+            coefficient: 1,
+        },
+    );
+    push_three(terms, 5, P - 1, x, y, z);
+    push(
+        terms,
+        8,
+        Term {
+            wire: r,
+            coefficient: 2,
+        },
+    );
+    Counts { a: 4, b: 5, c: 0 }
+}
+
+// x × (y - z) = r - z
+fn fill_choice(
+    terms: &mut [u64],
+    x: WireNumber,
+    y: WireNumber,
+    z: WireNumber,
+    r: WireNumber,
+) -> Counts
+    requires { ⌜ 326 ≤ length (now terms) ⌝ }
+    ensures { λ counts. ⌜ Filled (unsorted (Choice x y z r)) counts (now (terms .entry)) (now (terms .exit)) ⌝ }
+{
+    push(
+        terms,
+        0,
+        Term {
+            wire: x,
+            coefficient: 1,
+        },
+    );
+    push(
+        terms,
+        1,
+        Term {
+            wire: y,
+            coefficient: 1,
+        },
+    );
+    push(
+        terms,
+        2,
+        Term {
+            wire: z,
+            coefficient: P - 1,
+        },
+    );
+    push(
+        terms,
+        3,
+        Term {
+            wire: r,
+            coefficient: 1,
+        },
+    );
+    push(
+        terms,
+        4,
+        Term {
+            wire: z,
+            coefficient: P - 1,
+        },
+    );
+    Counts { a: 1, b: 2, c: 2 }
+}
+
+// (addends + constant - result - carries) × 1 = 0
+fn fill_sum(terms: &mut [u64], addends: Addends, constant: u64, r: WireNumber) -> Counts
+    requires { ⌜ (326 ≤ length (now terms)) × Fit (Sum addends constant r) × Few (Sum addends constant r) ⌝ }
+    ensures { λ counts. ⌜ Filled (unsorted (Sum addends constant r)) counts (now (terms .entry)) (now (terms .exit)) ⌝ }
+{
+    let n = push_summands(terms, addends, constant);
+    push_taken(terms, n, r);
+    push(
+        terms,
+        n + 34,
+        Term {
+            wire: WireNumber(0),
+            coefficient: 1,
+        },
+    );
+    Counts {
+        a: n + 34,
+        b: 1,
+        c: 0,
+    }
+}
+
+// (x - y) × 1 = 0
+fn fill_equal(terms: &mut [u64], x: WireNumber, y: WireNumber) -> Counts
+    requires { ⌜ 326 ≤ length (now terms) ⌝ }
+    ensures { λ r. ⌜ Filled (unsorted (Equal x y)) r (now (terms .entry)) (now (terms .exit)) ⌝ }
+{
+    push(
+        terms,
+        0,
+        Term {
+            wire: x,
+            coefficient: 1,
+        },
+    );
+    push(
+        terms,
+        1,
+        Term {
+            wire: y,
+            coefficient: P - 1,
+        },
+    );
+    push(
+        terms,
+        2,
+        Term {
+            wire: WireNumber(0),
+            coefficient: 1,
+        },
+    );
+    Counts { a: 2, b: 1, c: 0 }
+}
+
+// The terms of a form: those of A, then B, then C, each in the order of the equation, without zero ones.
+pub fn fill(form: Form, terms: &mut [u64]) -> Counts
+    requires { ⌜ (326 ≤ length (now terms)) × Fit form × Few form ⌝ }
+    ensures { λ r. ⌜ Filled (unsorted form) r (now (terms .entry)) (now (terms .exit)) ⌝ }
+{
+    match form {
+        Form::Fixed { w, bit } => fill_fixed(terms, w, bit),
+        Form::Bit { w } => fill_bit(terms, w),
+        Form::XorOfTwo { x, y, r } => fill_xor_of_two(terms, x, y, r),
+        Form::XorOfThree { x, y, z, r } => fill_xor_of_three(terms, x, y, z, r),
+        Form::Majority { x, y, z, r } => fill_majority(terms, x, y, z, r),
+        Form::Choice { x, y, z, r } => fill_choice(terms, x, y, z, r),
+        Form::Sum {
+            addends,
+            constant,
+            r,
+        } => fill_sum(terms, addends, constant, r),
+        Form::Equal { x, y } => fill_equal(terms, x, y),
+    }
+}
