@@ -1,4 +1,5 @@
 pub mod All
+pub mod FewTerms
 pub mod Flat
 pub mod FlatAll
 pub mod Forms
@@ -22,7 +23,6 @@ mod BlockRounds
 mod Carries
 mod Chain
 mod Clear
-mod FewTerms
 mod Order
 mod Parts
 mod PlaceRange

@@ -29,7 +29,7 @@ module _ (a : ℕ → ℕ) where
   value-cond true xs ys n ex ey = ex
   value-cond false xs ys n ex ey = ey
 
-  value-nonzero : (ts : List Term) → value a (nonzero ts) ≡ value a ts
+  pub value-nonzero : (ts : List Term) → value a (nonzero ts) ≡ value a ts
   unfolding value nonzero
   value-nonzero [] = refl
   value-nonzero (t ∷ ts) = go (eqb (t .coefficient) 0) refl (value-nonzero ts)

@@ -50,7 +50,8 @@ pub fn row(length: u64, row: u64, out: &mut [u8]) -> RowAnswer
         return RowAnswer::LengthAboveLimit;
     }
     let bits = 8 * length;
-    if row_count(bits) <= row {
+    let count = row_count(bits);
+    if count <= row {
         return RowAnswer::RowOutOfRange;
     }
     if out.len() < 1956 {

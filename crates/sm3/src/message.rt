@@ -1,13 +1,14 @@
 // The blocks of a record's padded message, one at a time.
 ghost use mathlib.Core.Path.{_≡_};
 ghost use Prim.Native.Nat.{ℕ, _+_, _*_, _/_, _%_, _<_, _≤_};
-ghost use lib.ListN.{length, getD, set};
+ghost use lib.ListN.{length, getD, set, take};
 ghost use Rattle.sm3.specs.Message.{bitOfBytes, blocks, blockBits, chain, digestOf, message};
-ghost use Rattle.sm3.specs.Sm3.{block, turnedConstant};
+ghost use Rattle.sm3.specs.Sm3.{block, expansion, turnedConstant};
 ghost use Rattle.sm3.specs.Words.{tab};
 use crate::block::compress;
 use crate::constants::start_state;
 use crate::constants::turned_constants;
+use crate::expansion::block_words;
 use crate::state::State;
 
 // The bytes of the record from `at` on, fewer than 64, with zeros after them.
@@ -53,17 +54,25 @@ fn padded(bytes: &[u8], i: usize) -> [u8; 64]
     b
 }
 
+// W0 to W15 of block i of the message, with room for the words after them. A block that the record fills is read in place.
+pub fn message_words(bytes: &[u8], i: usize) -> [u32; 68]
+    requires { ⌜ (length (now bytes) ≤ 1015) × (i < blocks (8 * length (now bytes))) ⌝ }
+    ensures { λ r. ⌜ (length r ≡ 68) × (take 16 r ≡ expansion (blockBits (message (8 * length (now (bytes .entry))) (bitOfBytes (now (bytes .entry)))) i) 16) ⌝ }
+{
+    let at = 64 * i;
+    if at + 64 <= bytes.len() {
+        return block_words(bytes, at);
+    }
+    let b = padded(bytes, i);
+    block_words(&b, 0)
+}
+
 // What block i + 1 begins with, where block i begins with v.
 fn next_state(v: State, bytes: &[u8], i: usize, t: &[u32; 64]) -> State
     requires { ⌜ (length (now bytes) ≤ 1015) × (i < blocks (8 * length (now bytes))) × (now t ≡ tab 64 turnedConstant) ⌝ }
     ensures { λ r. ⌜ r ≡ block (blockBits (message (8 * length (now (bytes .entry))) (bitOfBytes (now (bytes .entry)))) i) v ⌝ }
 {
-    let at = 64 * i;
-    if at + 64 <= bytes.len() {
-        return compress(v, bytes, at, t);
-    }
-    let b = padded(bytes, i);
-    compress(v, &b, 0, t)
+    compress(v, message_words(bytes, i), t)
 }
 
 // The digest of a record, as words.

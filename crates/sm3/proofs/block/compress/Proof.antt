@@ -1,13 +1,10 @@
--- The calls are the definition's parts: the words of the block, the 64 rounds, the xor with what it began with.
+-- The calls are the definition's parts: the 64 rounds on the block's words, and the xor with what it began with.
 use mathlib.Core.Path.{ap, _∙_}
 use borrow.Author.Needs.{needs}
 use Rattle.sm3.specs.Sm3.{block, xorState}
 use Rattle.sm3.specs.declared.state.State.{State}
 use Rattle.sm3.proofs.block.compress.Statement.{statement}
 use Rattle.sm3.proofs.block.compress.Tie as tie
-
-block-words-requires : tie.Need-block-words-requires
-block-words-requires c κs = search needs
 
 all-rounds-requires : tie.Need-all-rounds-requires
 all-rounds-requires c κs = search needs
@@ -18,10 +15,10 @@ xor-states-requires c κs = search needs
 returns : tie.Need-returns
 unfolding block
 returns c =
-    let a = c .before .before .before .before .args in
-    c .xor-states .ensures
-    ∙ ap (λ (s : State). xorState s (a .v)) (c .before .all-rounds .ensures _ (c .before .before .block-words .ensures .1))
+    let a = c .before .before .args in
+    λ bits e.
+    c .xor-states .ensures ∙ ap (λ (s : State). xorState s (a .v)) (c .before .all-rounds .ensures bits e)
 
 pub compress-spec : {M : Type 1} → statement M
 compress-spec =
-    tie.close (tie.spec block-words-requires all-rounds-requires xor-states-requires returns)
+    tie.close (tie.spec all-rounds-requires xor-states-requires returns)

@@ -1,0 +1,171 @@
+use mathlib.Core.List.{List}
+use mathlib.Core.Path.{_≡_, _∙_, ap, ap₂, refl}
+use Prim.Native.Nat.{ℕ, _+_, _-_}
+use native.Mathlib.Omega.{arith}
+use denote.Ref.{now}
+use lib.ListN.{getD}
+use Rattle.assignment.proofs.Writes.{wrote-as, wrote-then}
+use Rattle.circuit.specs.Layout.{wordWires}
+use Rattle.sm3.specs.Sm3.{P1, _⊕_, expanded, mixed}
+use Rattle.sm3.specs.Words.{turn}
+use borrow.Author.Needs.{needs}
+use Rattle.assignment.proofs.expansion.put_expanded.Statement.{statement}
+use Rattle.assignment.proofs.expansion.put_expanded.Tie as tie
+use Rattle.assignment.proofs.expansion.put_expanded.Reads as reads
+use Rattle.assignment.proofs.expansion.put_expanded.Lts as lts
+use Rattle.assignment.proofs.wires.put_word.Reads as put-word-reads
+use Rattle.sm3.proofs.words.p1.Reads as p1-reads
+use Rattle.sm3.proofs.words.turn_left.Reads as turn-left-reads
+
+-- src/expansion.rt:29:15
+mixed-is : (x : List ℕ) (j : ℕ) {t : ℕ} → t ≡ turn 15 (getD x (j - 3) 0) → getD x (j - 16) 0 ⊕ getD x (j - 9) 0 ⊕ t ≡ mixed x j
+unfolding mixed
+mixed-is x j e = ap (λ t. getD x (j - 16) 0 ⊕ getD x (j - 9) 0 ⊕ t) e
+
+expanded-is : (x : List ℕ) (j : ℕ) {p t : ℕ} → p ≡ P1 (mixed x j) → t ≡ turn 7 (getD x (j - 13) 0)
+    → p ⊕ t ⊕ getD x (j - 6) 0 ≡ expanded x j
+unfolding expanded
+expanded-is x j e d = ap₂ (λ p t. p ⊕ t ⊕ getD x (j - 6) 0) e d
+
+sub-q : tie.Need-sub-q
+sub-q c = search needs
+
+-- src/expansion.rt:29:13
+mul-q : tie.Need-mul-q
+mul-q c = search needs
+
+-- src/expansion.rt:29:13
+element-copy-out-q : tie.Need-element-copy-out-q
+element-copy-out-q c = search needs
+
+-- src/expansion.rt:29:27
+sub-q-2 : tie.Need-sub-q-2
+sub-q-2 c = search needs
+
+-- src/expansion.rt:29:25
+mul-q-2 : tie.Need-mul-q-2
+mul-q-2 c = search needs
+
+-- src/expansion.rt:29:25
+element-copy-out-q-2 : tie.Need-element-copy-out-q-2
+element-copy-out-q-2 c = search needs
+
+-- src/expansion.rt:29:48
+sub-turn-left : tie.Need-sub-turn-left
+sub-turn-left c = search needs
+
+-- src/expansion.rt:29:46
+mul-turn-left : tie.Need-mul-turn-left
+mul-turn-left c = search needs
+
+-- src/expansion.rt:29:46
+element-copy-out-turn-left : tie.Need-element-copy-out-turn-left
+element-copy-out-turn-left c = search needs
+
+-- src/expansion.rt:29:36
+turn-left-requires : tie.Need-turn-left-requires
+turn-left-requires c κs = search needs
+
+-- src/expansion.rt:30:9
+p1-requires : tie.Need-p1-requires
+p1-requires c κs = search needs
+
+-- src/expansion.rt:31:29
+sub-turn-left-2 : tie.Need-sub-turn-left-2
+sub-turn-left-2 c = search needs
+
+-- src/expansion.rt:31:27
+mul-turn-left-2 : tie.Need-mul-turn-left-2
+mul-turn-left-2 c = search needs
+
+-- src/expansion.rt:31:27
+element-copy-out-turn-left-2 : tie.Need-element-copy-out-turn-left-2
+element-copy-out-turn-left-2 c = search needs
+
+-- src/expansion.rt:31:17
+turn-left-requires-2 : tie.Need-turn-left-requires-2
+turn-left-requires-2 c κs = search needs
+
+-- src/expansion.rt:31:45
+sub-r : tie.Need-sub-r
+sub-r c = search needs
+
+-- src/expansion.rt:31:43
+mul-r : tie.Need-mul-r
+mul-r c = search needs
+
+-- src/expansion.rt:31:43
+element-copy-out-r : tie.Need-element-copy-out-r
+element-copy-out-r c = search needs
+
+-- src/expansion.rt:32:5
+put-word-requires : tie.Need-put-word-requires
+put-word-requires c κs = search needs
+
+-- src/expansion.rt:33:19
+add-put-word : tie.Need-add-put-word
+add-put-word c = search needs
+
+-- src/expansion.rt:33:5
+put-word-requires-2 : tie.Need-put-word-requires-2
+put-word-requires-2 c κs = search needs
+
+-- src/expansion.rt:34:19
+add-put-word-2 : tie.Need-add-put-word-2
+add-put-word-2 c = search needs
+
+-- src/expansion.rt:34:5
+put-word-requires-3 : tie.Need-put-word-requires-3
+put-word-requires-3 c κs = search needs
+
+-- src/expansion.rt:24:1
+same-length : tie.Need-same-length
+same-length c = search needs
+
+-- src/expansion.rt:24:1
+returns : tie.Need-returns
+returns c =
+    let p3 = c .before .before in
+    let p2 = p3 .before .before .before .before in
+    let p1 = p2 .before .before .before .before in
+    let turned = p1 .before .before .before in
+    let mixing = turned .before .before in
+    let a = mixing .before .before .before .before .before .before .args in
+    let x = now (a .x) in
+    let q : mixing .before .turn-left .result ≡ turn 15 (getD x (a .j - 3) 0) = mixing .before .turn-left .ensures in
+    let mix = mixed-is x (a .j) q in
+    let p = mixing .p1 .ensures ∙ ap P1 mix in (
+      expanded-is x (a .j) p (turned .turn-left2 .ensures),
+      wrote-then (a .w + 32) refl (wrote-as (ap wordWires mix) (p1 .put-word .ensures))
+          (wrote-then (a .w + 64) (omega arith) (wrote-as (ap wordWires p) (p2 .put-word2 .ensures)) (p3 .put-word3 .ensures)),
+    )
+
+pub put-expanded-spec : {M : Type 1} → statement M
+put-expanded-spec =
+    tie.close
+    (tie.spec
+    sub-q
+    mul-q
+    element-copy-out-q
+    sub-q-2
+    mul-q-2
+    element-copy-out-q-2
+    sub-turn-left
+    mul-turn-left
+    element-copy-out-turn-left
+    turn-left-requires
+    p1-requires
+    sub-turn-left-2
+    mul-turn-left-2
+    element-copy-out-turn-left-2
+    turn-left-requires-2
+    sub-r
+    mul-r
+    element-copy-out-r
+    put-word-requires
+    add-put-word
+    put-word-requires-2
+    add-put-word-2
+    put-word-requires-3
+    same-length
+    returns)

@@ -1,0 +1,133 @@
+use mathlib.Core.List.{List}
+use mathlib.Core.Path.{_≡_, _∙_, ap, ap₂, refl, sym}
+use Prim.Native.Nat.{ℕ, _+_, _-_, _*_, _<_, _≤_}
+use native.Mathlib.Omega.{arith}
+use lib.ListN.{getD, length, length-set, take}
+use lib.Seq.{take-all}
+use Rattle.assignment.specs.Wrote.{Wrote}
+use Rattle.assignment.proofs.Writes.{length-wrote, wrote-as, wrote-none, wrote-row}
+use Rattle.circuit.specs.Layout.{expansionWires, wordWires}
+use Rattle.circuit.specs.Sequence.{beside, grid}
+use Rattle.sm3.proofs.expansion.Laws.{W-expanded, getD-expansion, mixed-take, store-expanded, take-expansion}
+use Rattle.sm3.specs.Sm3.{P1, expanded, expansion, mixed}
+use borrow.Author.Needs.{needs}
+use Rattle.assignment.proofs.expansion.put_expanded_words.Statement.{statement}
+use Rattle.assignment.proofs.expansion.put_expanded_words.Tie as tie
+use Rattle.assignment.proofs.expansion.put_expanded_words.Reads as reads
+use Rattle.assignment.proofs.expansion.put_expanded_words.Lts as lts
+use Rattle.assignment.proofs.expansion.put_expanded.Reads as put-expanded-reads
+
+-- the wires of the expansion
+abbrev words : (ℕ → ℕ) → ℕ → ℕ
+words bits = grid 96 (λ j. expansionWires (expansion bits 68) (16 + j))
+
+-- q, P1(q) and Wj are those of the whole expansion
+expanded-wires : (bits : ℕ → ℕ) (x : List ℕ) (j : ℕ) {r : ℕ} → 16 ≤ j → j < 68 → take j x ≡ expansion bits j → r ≡ expanded x j
+    → beside 32 (wordWires (mixed x j)) (beside 32 (wordWires (P1 (mixed x j))) (wordWires r)) ≡ expansionWires (expansion bits 68) j
+unfolding expansionWires
+expanded-wires bits x j h l e r =
+    let whole : take j x ≡ take j (expansion bits 68) = e ∙ sym (take-expansion bits j 68 (omega arith)) in
+    let q : mixed x j ≡ mixed (expansion bits 68) j =
+    sym (mixed-take x j h) ∙ ap (λ w. mixed w j) whole ∙ mixed-take (expansion bits 68) j h in
+    let word : _ ≡ getD (expansion bits 68) j 0 = r ∙ sym (W-expanded bits x j h e) ∙ sym (getD-expansion bits 68 j l) in
+    ap₂ (λ q r. beside 32 (wordWires q) (beside 32 (wordWires (P1 q)) (wordWires r))) q word
+
+abbrev Inv-loop : tie.InvT-loop
+Inv-loop out₀ w x₀ j₀ out x j =
+    (j ≤ 52) × (length x ≡ 68) × (length out ≡ length out₀)
+    × ((bits : ℕ → ℕ) → take 16 x₀ ≡ expansion bits 16 → (take (16 + j) x ≡ expansion bits (16 + j)) × Wrote w (96 * j) (words bits) out₀ out)
+
+abbrev μ-loop : tie.MeasureT-loop
+μ-loop out₀ w x₀ j₀ out x j = 52 - j
+
+-- src/expansion.rt:43:5
+loop-holds : tie.Need-loop-holds Inv-loop μ-loop
+loop-holds c = (omega arith, c .before .pre .0, refl, λ bits e. (e, wrote-none _ _ _))
+
+-- src/expansion.rt:44:43
+mul-put-expanded : tie.Need-mul-put-expanded Inv-loop μ-loop
+mul-put-expanded c = search needs
+
+-- src/expansion.rt:44:39
+add-put-expanded : tie.Need-add-put-expanded Inv-loop μ-loop
+add-put-expanded c = search needs
+
+-- src/expansion.rt:44:54
+add-put-expanded-2 : tie.Need-add-put-expanded-2 Inv-loop μ-loop
+add-put-expanded-2 c = search needs
+
+-- src/expansion.rt:44:21
+put-expanded-requires : tie.Need-put-expanded-requires Inv-loop μ-loop
+put-expanded-requires c κs = omega arith
+
+-- src/expansion.rt:44:11
+add-x : tie.Need-add-x Inv-loop μ-loop
+add-x c = search needs
+
+-- src/expansion.rt:44:9
+mul-x : tie.Need-mul-x Inv-loop μ-loop
+mul-x c = search needs
+
+-- src/expansion.rt:44:9
+element-write-x : tie.Need-element-write-x Inv-loop μ-loop
+element-write-x c = search needs
+
+-- src/expansion.rt:43:9
+add-j : tie.Need-add-j Inv-loop μ-loop
+add-j c = search needs
+
+-- src/expansion.rt:43:5
+loop-less : tie.Need-loop-less Inv-loop μ-loop
+loop-less c = search needs
+
+-- src/expansion.rt:43:5
+loop-again : tie.Need-loop-again Inv-loop μ-loop
+loop-again c =
+    let l = c .before .before .before .before .before .before in
+    let j = l .loop .j in
+    let x = l .loop .x in
+    let put = c .before .before .put-expanded in (
+      omega arith,
+      length-set x (16 + j) (put .result) ∙ l .loop .inv .1,
+      length-wrote (put .ensures .1) ∙ l .loop .inv .2,
+      λ bits e.
+          let known = l .loop .inv .3 bits e in (
+            store-expanded (16 + (j + 1)) (omega arith) (put .ensures .0) (record { full = l .loop .inv .1; words = known .0 }) .words,
+            wrote-row (λ j. expansionWires (expansion bits 68) (16 + j)) j _ refl (known .1)
+                (wrote-as
+                (expanded-wires bits x (16 + j) (omega arith) (omega arith) (known .0) (put .ensures .0)) (put .ensures .1)),
+          ),
+    )
+
+-- src/expansion.rt:39:1
+same-length : tie.Need-same-length Inv-loop μ-loop
+same-length c = c .before .loop .inv .2
+
+-- src/expansion.rt:39:1
+returns : tie.Need-returns Inv-loop μ-loop
+returns c =
+    let l = c .before .loop in
+    let all : l .j ≡ 52 = omega arith in
+    λ bits e.
+    let known = l .inv .3 bits e in
+    (sym (take-all 68 (l .x) (omega arith)) ∙ (rw all at (known .0)), rw all at (known .1))
+
+pub put-expanded-words-spec : {M : Type 1} → statement M
+put-expanded-words-spec =
+    tie.close
+    (tie.spec
+    Inv-loop
+    μ-loop
+    loop-holds
+    mul-put-expanded
+    add-put-expanded
+    add-put-expanded-2
+    put-expanded-requires
+    add-x
+    mul-x
+    element-write-x
+    add-j
+    loop-less
+    loop-again
+    same-length
+    returns)

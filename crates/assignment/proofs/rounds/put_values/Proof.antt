@@ -1,0 +1,105 @@
+use mathlib.Core.Path.{refl}
+use Prim.Native.Nat.{_+_}
+use native.Mathlib.Omega.{arith}
+use Rattle.assignment.proofs.Writes.{wrote-then}
+use borrow.Author.Needs.{needs}
+use Rattle.assignment.proofs.rounds.put_values.Statement.{statement}
+use Rattle.assignment.proofs.rounds.put_values.Tie as tie
+use Rattle.assignment.proofs.rounds.put_values.Reads as reads
+use Rattle.assignment.proofs.rounds.put_values.Lts as lts
+use Rattle.assignment.proofs.wires.put_sum.Reads as put-sum-reads
+use Rattle.assignment.proofs.wires.put_word.Reads as put-word-reads
+
+-- src/rounds.rt:80:5
+put-sum-requires : tie.Need-put-sum-requires
+put-sum-requires c κs = search needs
+
+-- src/rounds.rt:81:19
+add-put-word : tie.Need-add-put-word
+add-put-word c = search needs
+
+-- src/rounds.rt:81:5
+put-word-requires : tie.Need-put-word-requires
+put-word-requires c κs = search needs
+
+-- src/rounds.rt:82:19
+add-put-word-2 : tie.Need-add-put-word-2
+add-put-word-2 c = search needs
+
+-- src/rounds.rt:82:5
+put-word-requires-2 : tie.Need-put-word-requires-2
+put-word-requires-2 c κs = search needs
+
+-- src/rounds.rt:83:19
+add-put-word-3 : tie.Need-add-put-word-3
+add-put-word-3 c = search needs
+
+-- src/rounds.rt:83:5
+put-word-requires-3 : tie.Need-put-word-requires-3
+put-word-requires-3 c κs = search needs
+
+-- src/rounds.rt:84:18
+add-put-sum : tie.Need-add-put-sum
+add-put-sum c = search needs
+
+-- src/rounds.rt:84:5
+put-sum-requires-2 : tie.Need-put-sum-requires-2
+put-sum-requires-2 c κs = search needs
+
+-- src/rounds.rt:85:18
+add-put-sum-2 : tie.Need-add-put-sum-2
+add-put-sum-2 c = search needs
+
+-- src/rounds.rt:85:5
+put-sum-requires-3 : tie.Need-put-sum-requires-3
+put-sum-requires-3 c κs = search needs
+
+-- src/rounds.rt:86:19
+add-put-word-4 : tie.Need-add-put-word-4
+add-put-word-4 c = search needs
+
+-- src/rounds.rt:86:5
+put-word-requires-4 : tie.Need-put-word-requires-4
+put-word-requires-4 c κs = search needs
+
+-- src/rounds.rt:76:1
+same-length : tie.Need-same-length
+same-length c = search needs
+
+-- src/rounds.rt:76:1
+returns : tie.Need-returns
+returns c =
+    let p7 = c .before .before in
+    let p6 = p7 .before .before .before .before in
+    let p5 = p6 .before .before .before .before in
+    let p4 = p5 .before .before .before .before in
+    let p3 = p4 .before .before .before .before in
+    let p2 = p3 .before .before .before .before in
+    let p1 = p2 .before .before .before .before in
+    let w = p1 .before .before .before .args .w in
+    wrote-then (w + 34) refl (p1 .put-sum .ensures)
+    (wrote-then (w + 66) (omega arith) (p2 .put-word .ensures)
+    (wrote-then (w + 98) (omega arith) (p3 .put-word2 .ensures)
+    (wrote-then (w + 130) (omega arith) (p4 .put-word3 .ensures)
+    (wrote-then (w + 164) (omega arith) (p5 .put-sum2 .ensures)
+    (wrote-then (w + 198) (omega arith) (p6 .put-sum3 .ensures) (p7 .put-word4 .ensures))))))
+
+pub put-values-spec : {M : Type 1} → statement M
+put-values-spec =
+    tie.close
+    (tie.spec
+    put-sum-requires
+    add-put-word
+    put-word-requires
+    add-put-word-2
+    put-word-requires-2
+    add-put-word-3
+    put-word-requires-3
+    add-put-sum
+    put-sum-requires-2
+    add-put-sum-2
+    put-sum-requires-3
+    add-put-word-4
+    put-word-requires-4
+    same-length
+    returns)

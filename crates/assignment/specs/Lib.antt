@@ -1,0 +1,5 @@
+pub mod Assignment
+pub mod Check
+pub mod Demand3
+pub mod Produce
+pub mod Wrote
