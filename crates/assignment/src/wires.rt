@@ -15,12 +15,14 @@ pub fn low(s: u64) -> u32
     (s % 4294967296) as u32
 }
 
-// Bit i of a word, from the highest.
+// Bit i of a word, from the highest. Said as a difference that might wrap, a bit tells the compiler nothing of its size, so
+// that it stores an entry's eight bytes at once; from `% 2` it makes three stores an entry, at twice the time.
 fn bit_of(x: u32, i: usize) -> u64
     requires { ⌜ i < 32 ⌝ }
     ensures { λ r. ⌜ r ≡ bit i x ⌝ }
 {
-    ((x >> (31 - i)) % 2) as u64
+    let y = (x >> (31 - i)) as u64;
+    std::num::wrapping_sub_u64(y, y / 2 * 2)
 }
 
 // The entry of wire w: 8 bytes, the least first.

@@ -1,8 +1,10 @@
+-- The five parts are written one after the other. The wires of W0 to W15 are the block's bits, since those write the words.
 use mathlib.Core.List.{List}
 use mathlib.Core.Path.{_≡_, _∙_, ap, refl, sym}
 use Prim.Native.Nat.{ℕ, _+_, _*_, _/_, _%_, _<_}
 use native.Mathlib.Nat.{div-add-mod}
 use native.Mathlib.Omega.{arith}
+use borrow.Author.Needs.{needs}
 use lib.ListN.{getD, take}
 use lib.Seq.{getD-take}
 use Rattle.assignment.proofs.Writes.{wrote-as, wrote-same, wrote-then}
@@ -12,19 +14,9 @@ use Rattle.sm3.proofs.Numbers.{bit-number}
 use Rattle.sm3.proofs.expansion.Laws.{getD-block}
 use Rattle.sm3.specs.Sm3.{block, blockWord, expansion, pairWord, rounds, xorState}
 use Rattle.sm3.specs.Words.{bit, number}
-use borrow.Author.Needs.{needs}
 use Rattle.assignment.proofs.block.put_block.Statement.{statement}
 use Rattle.assignment.proofs.block.put_block.Tie as tie
-use Rattle.assignment.proofs.block.put_block.Reads as reads
-use Rattle.assignment.proofs.block.put_block.Lts as lts
-use Rattle.assignment.proofs.expansion.put_block_words.Reads as put-block-words-reads
-use Rattle.assignment.proofs.expansion.put_expanded_words.Reads as put-expanded-words-reads
-use Rattle.assignment.proofs.expansion.put_pairs.Reads as put-pairs-reads
-use Rattle.assignment.proofs.rounds.put_rounds.Reads as put-rounds-reads
-use Rattle.assignment.proofs.wires.put_state.Reads as put-state-reads
-use Rattle.sm3.proofs.state.xor_states.Reads as xor-states-reads
 
--- src/block.rt:23:5
 -- the wires of W0 to W15 are the block's bits
 block-bits : (bits : ℕ → ℕ) (x : List ℕ) → ((k : ℕ) → k < 512 → bits k < 2) → take 16 x ≡ expansion bits 16
     → (k : ℕ) → k < 512 → grid 32 (λ j. wordWires (getD x j 0)) k ≡ bits k
@@ -40,49 +32,54 @@ block-bits bits x h e k l =
 put-block-words-requires : tie.Need-put-block-words-requires
 put-block-words-requires c κs = search needs
 
--- src/block.rt:24:29
 add-put-expanded-words : tie.Need-add-put-expanded-words
 add-put-expanded-words c = search needs
 
--- src/block.rt:24:5
 put-expanded-words-requires : tie.Need-put-expanded-words-requires
 put-expanded-words-requires c κs = search needs
 
--- src/block.rt:25:20
 add-put-pairs : tie.Need-add-put-pairs
 add-put-pairs c = search needs
 
--- src/block.rt:25:5
 put-pairs-requires : tie.Need-put-pairs-requires
 put-pairs-requires c κs = search needs
 
--- src/block.rt:26:29
 add-put-rounds : tie.Need-add-put-rounds
 add-put-rounds c = search needs
 
--- src/block.rt:26:9
 put-rounds-requires : tie.Need-put-rounds-requires
 put-rounds-requires c κs = search needs
 
--- src/block.rt:27:9
 xor-states-requires : tie.Need-xor-states-requires
 xor-states-requires c κs = search needs
 
--- src/block.rt:28:20
 add-put-state : tie.Need-add-put-state
-add-put-state c = omega (arith, c .before .before .before .before .before .before .before .before .before .before .before .before .before .before .before .before .before .before .before .before .before .before .before)
+add-put-state c =
+    let p4 = c .before .before .before .before in
+    let p2 = p4 .before .before .before .before .before .before .before .before .before .before in
+    let start = p2 .before .before .before .before .before .before .before .before .before in
+    omega (arith, start)
 
--- src/block.rt:28:5
 put-state-requires : tie.Need-put-state-requires
-put-state-requires c κs = omega (arith, c .before .before .before .before .before .before .before .before .before .before .before .before .before .before .before .before .before .before .before .before .before .before .before, c .before .before .before .before .put-rounds .kept, c .before .before .before .before .before .before .before .before .before .put-pairs .kept, c .before .before .before .before .before .before .before .before .before .before .before .before .before .before .put-expanded-words .kept, c .before .before .before .before .before .before .before .before .before .before .before .before .before .before .before .before .before .before .before .put-block-words .kept)
+put-state-requires c κs =
+    let p4 = c .before .before .before .before in
+    let p3 = p4 .before .before .before .before .before in
+    let p2 = p3 .before .before .before .before .before in
+    let p1 = p2 .before .before .before .before .before in
+    let start = p1 .before .before .before .before in
+    omega
+    (arith, start, p4 .put-rounds .kept, p3 .put-pairs .kept, p2 .put-expanded-words .kept, p1 .put-block-words .kept)
 
--- src/block.rt:18:1
 same-length : tie.Need-same-length
 same-length c =
-    c .before .before .put-state .kept .0 ∙ c .before .before .before .before .before .before .before .put-rounds .kept .0 ∙ c .before .before .before .before .before .before .before .before .before .before .before .before .put-pairs .kept .0
-    ∙ c .before .before .before .before .before .before .before .before .before .before .before .before .before .before .before .before .before .put-expanded-words .kept .0 ∙ c .before .before .before .before .before .before .before .before .before .before .before .before .before .before .before .before .before .before .before .before .before .before .put-block-words .kept .0
+    let p5 = c .before .before in
+    let p4 = p5 .before .before .before .before .before in
+    let p3 = p4 .before .before .before .before .before in
+    let p2 = p3 .before .before .before .before .before in
+    let p1 = p2 .before .before .before .before .before in
+    p5 .put-state .kept .0 ∙ p4 .put-rounds .kept .0 ∙ p3 .put-pairs .kept .0 ∙ p2 .put-expanded-words .kept .0
+    ∙ p1 .put-block-words .kept .0
 
--- src/block.rt:18:1
 returns : tie.Need-returns
 unfolding block blockWires
 returns c =
@@ -96,12 +93,16 @@ returns c =
     let v = a .v in
     λ bits h e.
     let x = p2 .put-expanded-words .ensures bits e in
-    let result = p5 .before .before .xor-states .ensures ∙ ap (λ s. xorState s v) (p4 .put-rounds .ensures .0 ∙ ap (λ x. rounds x v 64) (x .0)) in (
+    let result =
+    p5 .before .before .xor-states .ensures
+    ∙ ap (λ s. xorState s v) (p4 .put-rounds .ensures .0 ∙ ap (λ x. rounds x v 64) (x .0)) in (
       result,
       wrote-then (w + 512) refl (wrote-same bits (block-bits bits (a .words) h e) (p1 .put-block-words .ensures))
           (wrote-then (w + 5504) (omega arith) (x .1)
-          (wrote-then (w + 7552) (omega arith) (wrote-as (ap (λ x. grid 32 (λ j. wordWires (pairWord x j))) (x .0)) (p3 .put-pairs .ensures))
-          (wrote-then (w + 22272) (omega arith) (wrote-as (ap (λ x. grid 230 (λ j. roundWires x j (rounds x v j))) (x .0)) (p4 .put-rounds .ensures .1))
+          (wrote-then (w + 7552) (omega arith)
+          (wrote-as (ap (λ x. grid 32 (λ j. wordWires (pairWord x j))) (x .0)) (p3 .put-pairs .ensures))
+          (wrote-then (w + 22272) (omega arith)
+          (wrote-as (ap (λ x. grid 230 (λ j. roundWires x j (rounds x v j))) (x .0)) (p4 .put-rounds .ensures .1))
           (wrote-as (ap stateWires result) (p5 .put-state .ensures))))),
     )
 

@@ -1,19 +1,18 @@
+-- Before turn j the wires of the first j words are written; a turn writes the next row of the grid.
 use mathlib.Core.List.{List}
 use mathlib.Core.Path.{_≡_, refl}
 use Prim.Native.Nat.{ℕ, _-_, _*_, _≤_}
 use native.Mathlib.Omega.{arith}
+use borrow.Author.Needs.{needs}
 use lib.ListN.{getD}
 use Rattle.assignment.specs.Wrote.{Wrote}
 use Rattle.assignment.proofs.Writes.{length-wrote, wrote-none, wrote-row}
 use Rattle.circuit.specs.Layout.{wordWires}
 use Rattle.circuit.specs.Sequence.{grid}
-use borrow.Author.Needs.{needs}
 use Rattle.assignment.proofs.expansion.put_block_words.Statement.{statement}
 use Rattle.assignment.proofs.expansion.put_block_words.Tie as tie
-use Rattle.assignment.proofs.expansion.put_block_words.Reads as reads
-use Rattle.assignment.proofs.expansion.put_block_words.Lts as lts
-use Rattle.assignment.proofs.wires.put_word.Reads as put-word-reads
 
+-- the wires of the words
 abbrev words : List ℕ → ℕ → ℕ
 words x = grid 32 (λ j. wordWires (getD x j 0))
 
@@ -23,50 +22,39 @@ Inv-loop out₀ w x j₀ out j = (j ≤ 16) × Wrote w (32 * j) (words x) out₀
 abbrev μ-loop : tie.MeasureT-loop
 μ-loop out₀ w x j₀ out j = 16 - j
 
--- src/expansion.rt:18:5
 loop-holds : tie.Need-loop-holds Inv-loop μ-loop
 loop-holds c = (omega arith, wrote-none _ _ _)
 
--- src/expansion.rt:19:27
 mul-put-word : tie.Need-mul-put-word Inv-loop μ-loop
 mul-put-word c = search needs
 
--- src/expansion.rt:19:23
 add-put-word : tie.Need-add-put-word Inv-loop μ-loop
 add-put-word c = search needs
 
--- src/expansion.rt:19:35
 mul-put-word-2 : tie.Need-mul-put-word-2 Inv-loop μ-loop
 mul-put-word-2 c = search needs
 
--- src/expansion.rt:19:35
 element-copy-out-put-word : tie.Need-element-copy-out-put-word Inv-loop μ-loop
 element-copy-out-put-word c = search needs
 
--- src/expansion.rt:19:9
 put-word-requires : tie.Need-put-word-requires Inv-loop μ-loop
 put-word-requires c κs = omega (arith, length-wrote (c .before .before .before .loop .inv .1))
 
--- src/expansion.rt:18:9
 add-j : tie.Need-add-j Inv-loop μ-loop
 add-j c = search needs
 
--- src/expansion.rt:18:5
 loop-less : tie.Need-loop-less Inv-loop μ-loop
 loop-less c = search needs
 
--- src/expansion.rt:18:5
 loop-again : tie.Need-loop-again Inv-loop μ-loop
 loop-again c =
     let l = c .before .before .before .before .before .before in
     let x = l .before .before .args .x .now in
     (omega arith, wrote-row (λ j. wordWires (getD x j 0)) (l .loop .j) _ refl (l .loop .inv .1) (c .before .before .put-word .ensures))
 
--- src/expansion.rt:14:1
 same-length : tie.Need-same-length Inv-loop μ-loop
 same-length c = length-wrote (c .before .loop .inv .1)
 
--- src/expansion.rt:14:1
 returns : tie.Need-returns Inv-loop μ-loop
 returns c =
     let all : c .before .loop .j ≡ 16 = omega arith in

@@ -1,23 +1,19 @@
+-- The code is the definition of q and Wj, with what the calls ensure put in, and the three words are written one after the other.
 use mathlib.Core.List.{List}
 use mathlib.Core.Path.{_≡_, _∙_, ap, ap₂, refl}
 use Prim.Native.Nat.{ℕ, _+_, _-_}
 use native.Mathlib.Omega.{arith}
+use borrow.Author.Needs.{needs}
 use denote.Ref.{now}
 use lib.ListN.{getD}
 use Rattle.assignment.proofs.Writes.{wrote-as, wrote-then}
 use Rattle.circuit.specs.Layout.{wordWires}
 use Rattle.sm3.specs.Sm3.{P1, _⊕_, expanded, mixed}
 use Rattle.sm3.specs.Words.{turn}
-use borrow.Author.Needs.{needs}
 use Rattle.assignment.proofs.expansion.put_expanded.Statement.{statement}
 use Rattle.assignment.proofs.expansion.put_expanded.Tie as tie
-use Rattle.assignment.proofs.expansion.put_expanded.Reads as reads
-use Rattle.assignment.proofs.expansion.put_expanded.Lts as lts
-use Rattle.assignment.proofs.wires.put_word.Reads as put-word-reads
-use Rattle.sm3.proofs.words.p1.Reads as p1-reads
-use Rattle.sm3.proofs.words.turn_left.Reads as turn-left-reads
 
--- src/expansion.rt:29:15
+-- q and Wj of what `turn_left` and `p1` give
 mixed-is : (x : List ℕ) (j : ℕ) {t : ℕ} → t ≡ turn 15 (getD x (j - 3) 0) → getD x (j - 16) 0 ⊕ getD x (j - 9) 0 ⊕ t ≡ mixed x j
 unfolding mixed
 mixed-is x j e = ap (λ t. getD x (j - 16) 0 ⊕ getD x (j - 9) 0 ⊕ t) e
@@ -30,99 +26,75 @@ expanded-is x j e d = ap₂ (λ p t. p ⊕ t ⊕ getD x (j - 6) 0) e d
 sub-q : tie.Need-sub-q
 sub-q c = search needs
 
--- src/expansion.rt:29:13
 mul-q : tie.Need-mul-q
 mul-q c = search needs
 
--- src/expansion.rt:29:13
 element-copy-out-q : tie.Need-element-copy-out-q
 element-copy-out-q c = search needs
 
--- src/expansion.rt:29:27
 sub-q-2 : tie.Need-sub-q-2
 sub-q-2 c = search needs
 
--- src/expansion.rt:29:25
 mul-q-2 : tie.Need-mul-q-2
 mul-q-2 c = search needs
 
--- src/expansion.rt:29:25
 element-copy-out-q-2 : tie.Need-element-copy-out-q-2
 element-copy-out-q-2 c = search needs
 
--- src/expansion.rt:29:48
 sub-turn-left : tie.Need-sub-turn-left
 sub-turn-left c = search needs
 
--- src/expansion.rt:29:46
 mul-turn-left : tie.Need-mul-turn-left
 mul-turn-left c = search needs
 
--- src/expansion.rt:29:46
 element-copy-out-turn-left : tie.Need-element-copy-out-turn-left
 element-copy-out-turn-left c = search needs
 
--- src/expansion.rt:29:36
 turn-left-requires : tie.Need-turn-left-requires
 turn-left-requires c κs = search needs
 
--- src/expansion.rt:30:9
 p1-requires : tie.Need-p1-requires
 p1-requires c κs = search needs
 
--- src/expansion.rt:31:29
 sub-turn-left-2 : tie.Need-sub-turn-left-2
 sub-turn-left-2 c = search needs
 
--- src/expansion.rt:31:27
 mul-turn-left-2 : tie.Need-mul-turn-left-2
 mul-turn-left-2 c = search needs
 
--- src/expansion.rt:31:27
 element-copy-out-turn-left-2 : tie.Need-element-copy-out-turn-left-2
 element-copy-out-turn-left-2 c = search needs
 
--- src/expansion.rt:31:17
 turn-left-requires-2 : tie.Need-turn-left-requires-2
 turn-left-requires-2 c κs = search needs
 
--- src/expansion.rt:31:45
 sub-r : tie.Need-sub-r
 sub-r c = search needs
 
--- src/expansion.rt:31:43
 mul-r : tie.Need-mul-r
 mul-r c = search needs
 
--- src/expansion.rt:31:43
 element-copy-out-r : tie.Need-element-copy-out-r
 element-copy-out-r c = search needs
 
--- src/expansion.rt:32:5
 put-word-requires : tie.Need-put-word-requires
 put-word-requires c κs = search needs
 
--- src/expansion.rt:33:19
 add-put-word : tie.Need-add-put-word
 add-put-word c = search needs
 
--- src/expansion.rt:33:5
 put-word-requires-2 : tie.Need-put-word-requires-2
 put-word-requires-2 c κs = search needs
 
--- src/expansion.rt:34:19
 add-put-word-2 : tie.Need-add-put-word-2
 add-put-word-2 c = search needs
 
--- src/expansion.rt:34:5
 put-word-requires-3 : tie.Need-put-word-requires-3
 put-word-requires-3 c κs = search needs
 
--- src/expansion.rt:24:1
 same-length : tie.Need-same-length
 same-length c = search needs
 
--- src/expansion.rt:24:1
 returns : tie.Need-returns
 returns c =
     let p3 = c .before .before in

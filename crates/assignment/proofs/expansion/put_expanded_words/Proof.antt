@@ -1,7 +1,10 @@
+-- Before turn j the array has the words before W(16+j), and their wires are written. Wj and q read only words before it, so
+-- they are those of the whole expansion.
 use mathlib.Core.List.{List}
 use mathlib.Core.Path.{_≡_, _∙_, ap, ap₂, refl, sym}
 use Prim.Native.Nat.{ℕ, _+_, _-_, _*_, _<_, _≤_}
 use native.Mathlib.Omega.{arith}
+use borrow.Author.Needs.{needs}
 use lib.ListN.{getD, length, length-set, take}
 use lib.Seq.{take-all}
 use Rattle.assignment.specs.Wrote.{Wrote}
@@ -10,12 +13,8 @@ use Rattle.circuit.specs.Layout.{expansionWires, wordWires}
 use Rattle.circuit.specs.Sequence.{beside, grid}
 use Rattle.sm3.proofs.expansion.Laws.{W-expanded, getD-expansion, mixed-take, store-expanded, take-expansion}
 use Rattle.sm3.specs.Sm3.{P1, expanded, expansion, mixed}
-use borrow.Author.Needs.{needs}
 use Rattle.assignment.proofs.expansion.put_expanded_words.Statement.{statement}
 use Rattle.assignment.proofs.expansion.put_expanded_words.Tie as tie
-use Rattle.assignment.proofs.expansion.put_expanded_words.Reads as reads
-use Rattle.assignment.proofs.expansion.put_expanded_words.Lts as lts
-use Rattle.assignment.proofs.expansion.put_expanded.Reads as put-expanded-reads
 
 -- the wires of the expansion
 abbrev words : (ℕ → ℕ) → ℕ → ℕ
@@ -40,47 +39,36 @@ Inv-loop out₀ w x₀ j₀ out x j =
 abbrev μ-loop : tie.MeasureT-loop
 μ-loop out₀ w x₀ j₀ out x j = 52 - j
 
--- src/expansion.rt:43:5
 loop-holds : tie.Need-loop-holds Inv-loop μ-loop
 loop-holds c = (omega arith, c .before .pre .0, refl, λ bits e. (e, wrote-none _ _ _))
 
--- src/expansion.rt:44:43
 mul-put-expanded : tie.Need-mul-put-expanded Inv-loop μ-loop
 mul-put-expanded c = search needs
 
--- src/expansion.rt:44:39
 add-put-expanded : tie.Need-add-put-expanded Inv-loop μ-loop
 add-put-expanded c = search needs
 
--- src/expansion.rt:44:54
 add-put-expanded-2 : tie.Need-add-put-expanded-2 Inv-loop μ-loop
 add-put-expanded-2 c = search needs
 
--- src/expansion.rt:44:21
 put-expanded-requires : tie.Need-put-expanded-requires Inv-loop μ-loop
 put-expanded-requires c κs = omega arith
 
--- src/expansion.rt:44:11
 add-x : tie.Need-add-x Inv-loop μ-loop
 add-x c = search needs
 
--- src/expansion.rt:44:9
 mul-x : tie.Need-mul-x Inv-loop μ-loop
 mul-x c = search needs
 
--- src/expansion.rt:44:9
 element-write-x : tie.Need-element-write-x Inv-loop μ-loop
 element-write-x c = search needs
 
--- src/expansion.rt:43:9
 add-j : tie.Need-add-j Inv-loop μ-loop
 add-j c = search needs
 
--- src/expansion.rt:43:5
 loop-less : tie.Need-loop-less Inv-loop μ-loop
 loop-less c = search needs
 
--- src/expansion.rt:43:5
 loop-again : tie.Need-loop-again Inv-loop μ-loop
 loop-again c =
     let l = c .before .before .before .before .before .before in
@@ -99,11 +87,9 @@ loop-again c =
           ),
     )
 
--- src/expansion.rt:39:1
 same-length : tie.Need-same-length Inv-loop μ-loop
 same-length c = c .before .loop .inv .2
 
--- src/expansion.rt:39:1
 returns : tie.Need-returns Inv-loop μ-loop
 returns c =
     let l = c .before .loop in

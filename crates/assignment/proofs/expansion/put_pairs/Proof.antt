@@ -1,19 +1,18 @@
+-- Before turn j the wires of the first j pairs are written; a turn writes the next row of the grid.
 use mathlib.Core.List.{List}
 use mathlib.Core.Path.{_≡_, refl}
 use Prim.Native.Nat.{ℕ, _-_, _*_, _≤_}
 use native.Mathlib.Omega.{arith}
+use borrow.Author.Needs.{needs}
 use Rattle.assignment.specs.Wrote.{Wrote}
 use Rattle.assignment.proofs.Writes.{length-wrote, wrote-none, wrote-row}
 use Rattle.circuit.specs.Layout.{wordWires}
 use Rattle.circuit.specs.Sequence.{grid}
 use Rattle.sm3.specs.Sm3.{pairWord}
-use borrow.Author.Needs.{needs}
 use Rattle.assignment.proofs.expansion.put_pairs.Statement.{statement}
 use Rattle.assignment.proofs.expansion.put_pairs.Tie as tie
-use Rattle.assignment.proofs.expansion.put_pairs.Reads as reads
-use Rattle.assignment.proofs.expansion.put_pairs.Lts as lts
-use Rattle.assignment.proofs.wires.put_word.Reads as put-word-reads
 
+-- the wires of the pairs
 abbrev pairs : List ℕ → ℕ → ℕ
 pairs x = grid 32 (λ j. wordWires (pairWord x j))
 
@@ -23,51 +22,39 @@ Inv-loop out₀ w x j₀ out j = (j ≤ 64) × Wrote w (32 * j) (pairs x) out₀
 abbrev μ-loop : tie.MeasureT-loop
 μ-loop out₀ w x j₀ out j = 64 - j
 
--- src/expansion.rt:53:5
 loop-holds : tie.Need-loop-holds Inv-loop μ-loop
 loop-holds c = (omega arith, wrote-none _ _ _)
 
--- src/expansion.rt:54:27
 mul-put-word : tie.Need-mul-put-word Inv-loop μ-loop
 mul-put-word c = search needs
 
--- src/expansion.rt:54:23
 add-put-word : tie.Need-add-put-word Inv-loop μ-loop
 add-put-word c = search needs
 
--- src/expansion.rt:54:35
 mul-put-word-2 : tie.Need-mul-put-word-2 Inv-loop μ-loop
 mul-put-word-2 c = search needs
 
--- src/expansion.rt:54:35
 element-copy-out-put-word : tie.Need-element-copy-out-put-word Inv-loop μ-loop
 element-copy-out-put-word c = search needs
 
--- src/expansion.rt:54:44
 add-put-word-2 : tie.Need-add-put-word-2 Inv-loop μ-loop
 add-put-word-2 c = search needs
 
--- src/expansion.rt:54:42
 mul-put-word-3 : tie.Need-mul-put-word-3 Inv-loop μ-loop
 mul-put-word-3 c = search needs
 
--- src/expansion.rt:54:42
 element-copy-out-put-word-2 : tie.Need-element-copy-out-put-word-2 Inv-loop μ-loop
 element-copy-out-put-word-2 c = search needs
 
--- src/expansion.rt:54:9
 put-word-requires : tie.Need-put-word-requires Inv-loop μ-loop
 put-word-requires c κs = omega (arith, length-wrote (c .before .before .before .before .loop .inv .1))
 
--- src/expansion.rt:53:9
 add-j : tie.Need-add-j Inv-loop μ-loop
 add-j c = search needs
 
--- src/expansion.rt:53:5
 loop-less : tie.Need-loop-less Inv-loop μ-loop
 loop-less c = search needs
 
--- src/expansion.rt:53:5
 loop-again : tie.Need-loop-again Inv-loop μ-loop
 unfolding pairWord
 loop-again c =
@@ -75,11 +62,9 @@ loop-again c =
     let x = l .before .before .args .x .now in
     (omega arith, wrote-row (λ j. wordWires (pairWord x j)) (l .loop .j) _ refl (l .loop .inv .1) (c .before .before .put-word .ensures))
 
--- src/expansion.rt:49:1
 same-length : tie.Need-same-length Inv-loop μ-loop
 same-length c = length-wrote (c .before .loop .inv .1)
 
--- src/expansion.rt:49:1
 returns : tie.Need-returns Inv-loop μ-loop
 returns c =
     let all : c .before .loop .j ≡ 64 = omega arith in

@@ -1,6 +1,8 @@
+-- The tests are the refusals in their order; past them all wires are written from the buffer's front on.
 use mathlib.Core.Path.{refl}
 use Prim.Native.Nat.{_*_, _<_, _≤_}
 use native.Mathlib.Omega.{arith}
+use borrow.Author.Needs.{needs}
 use borrow.Author.Tests.{le-ltb, lt-ltb}
 use denote.Ref.{now}
 use lib.ListN.{length}
@@ -8,38 +10,27 @@ use Rattle.assignment.specs.Assignment.{assignmentOf}
 use Rattle.assignment.proofs.Writes.{wrote-front}
 use Rattle.circuit.specs.Layout.{wireCount}
 use Rattle.sm3.specs.Message.{blocks}
-use borrow.Author.Needs.{needs}
 use Rattle.assignment.proofs.produce.produce.Statement.{statement}
 use Rattle.assignment.proofs.produce.produce.Tie as tie
-use Rattle.assignment.proofs.produce.produce.Reads as reads
-use Rattle.assignment.proofs.produce.produce.Lts as lts
-use Rattle.assignment.proofs.produce.put_assignment.Reads as put-assignment-reads
 
--- src/produce.rt:58:9
 returns : tie.Need-returns
 returns c = (simp (lt-ltb _ _ (c .if1 .taken)), refl)
 
--- src/produce.rt:60:33
 add-wires : tie.Need-add-wires
 add-wires c = search needs
 
--- src/produce.rt:60:32
 add-wires-2 : tie.Need-add-wires-2
 add-wires-2 c = search needs
 
--- src/produce.rt:60:23
 mul-wires : tie.Need-mul-wires
 mul-wires c = search needs
 
--- src/produce.rt:60:17
 add-wires-3 : tie.Need-add-wires-3
 add-wires-3 c = search needs
 
--- src/produce.rt:61:20
 mul-if2 : tie.Need-mul-if2
 mul-if2 c = search needs
 
--- src/produce.rt:62:9
 returns-2 : tie.Need-returns-2
 unfolding blocks wireCount
 returns-2 c =
@@ -47,16 +38,13 @@ returns-2 c =
     let short : length (now (a .out)) < 8 * wireCount (8 * length (now (a .bytes))) = omega arith in
     (simp (le-ltb _ _ (c .before .if1 .left), lt-ltb _ _ short), refl)
 
--- src/produce.rt:64:5
 put-assignment-requires : tie.Need-put-assignment-requires
 unfolding blocks wireCount
 put-assignment-requires c κs = omega arith
 
--- src/produce.rt:53:1
 same-length : tie.Need-same-length
 same-length c = search needs
 
--- src/produce.rt:53:1
 returns-3 : tie.Need-returns-3
 unfolding assignmentOf blocks wireCount
 returns-3 c =

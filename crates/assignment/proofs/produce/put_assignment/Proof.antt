@@ -1,55 +1,41 @@
+-- Wire 0, the digest, the start words and the blocks are written one after the other.
 use mathlib.Core.Path.{_≡_, ap, refl, subst}
 use Prim.Native.Nat.{_+_, _*_}
 use native.Mathlib.Omega.{arith}
+use borrow.Author.Needs.{needs}
 use denote.Ref.{now}
 use lib.ListN.{length}
 use Rattle.assignment.specs.Wrote.{Wrote}
 use Rattle.assignment.proofs.Writes.{wrote-as, wrote-then}
 use Rattle.circuit.specs.Layout.{stateWires, wireCount, wireOf}
 use Rattle.sm3.specs.Message.{bitOfBytes, blocks}
-use borrow.Author.Needs.{needs}
 use Rattle.assignment.proofs.produce.put_assignment.Statement.{statement}
 use Rattle.assignment.proofs.produce.put_assignment.Tie as tie
-use Rattle.assignment.proofs.produce.put_assignment.Reads as reads
-use Rattle.assignment.proofs.produce.put_assignment.Lts as lts
-use Rattle.assignment.proofs.produce.put_message.Reads as put-message-reads
-use Rattle.assignment.proofs.wires.put_entry.Reads as put-entry-reads
-use Rattle.assignment.proofs.wires.put_state.Reads as put-state-reads
-use Rattle.sm3.proofs.constants.start_state.Reads as start-state-reads
-use Rattle.sm3.proofs.message.hash.Reads as hash-reads
 
--- src/produce.rt:45:9
 hash-requires : tie.Need-hash-requires
 hash-requires c κs = search needs
 
--- src/produce.rt:46:5
 put-entry-requires : tie.Need-put-entry-requires
 unfolding wireCount
 put-entry-requires c κs = omega arith
 
--- src/produce.rt:47:5
 put-state-requires : tie.Need-put-state-requires
 unfolding wireCount
 put-state-requires c κs = omega arith
 
--- src/produce.rt:48:25
 start-state-requires : tie.Need-start-state-requires
 start-state-requires c κs = search needs
 
--- src/produce.rt:48:5
 put-state-requires-2 : tie.Need-put-state-requires-2
 unfolding wireCount
 put-state-requires-2 c κs = omega arith
 
--- src/produce.rt:49:5
 put-message-requires : tie.Need-put-message-requires
 put-message-requires c κs = search needs
 
--- src/produce.rt:41:1
 same-length : tie.Need-same-length
 same-length c = search needs
 
--- src/produce.rt:41:1
 returns : tie.Need-returns
 unfolding wireCount wireOf
 returns c =

@@ -1,8 +1,11 @@
+-- Before block i the state is what the chain of the message's blocks has come to, and the wires of the blocks before it are
+-- written. The bytes and the bits count the same blocks.
 use mathlib.Core.List.{List}
 use mathlib.Core.Path.{_≡_, _∙_, ap, refl, sym}
 use Prim.Native.Nat.{ℕ, _+_, _-_, _*_, _≤_}
 use native.Mathlib.Numerals.{add-one}
 use native.Mathlib.Omega.{arith}
+use borrow.Author.Needs.{needs}
 use lib.ListN.{length}
 use Rattle.assignment.specs.Wrote.{Wrote}
 use Rattle.assignment.proofs.Writes.{length-wrote, wrote-as, wrote-none, wrote-row}
@@ -12,15 +15,8 @@ use Rattle.sm3.proofs.Bounds.{message-lt}
 use Rattle.sm3.proofs.Bytes.{bit-of-bytes-lt}
 use Rattle.sm3.specs.Message.{bitOfBytes, blockBits, blocks, chain, message}
 use Rattle.sm3.specs.Sm3.{block}
-use borrow.Author.Needs.{needs}
 use Rattle.assignment.proofs.produce.put_message.Statement.{statement}
 use Rattle.assignment.proofs.produce.put_message.Tie as tie
-use Rattle.assignment.proofs.produce.put_message.Reads as reads
-use Rattle.assignment.proofs.produce.put_message.Lts as lts
-use Rattle.assignment.proofs.block.put_block.Reads as put-block-reads
-use Rattle.sm3.proofs.constants.start_state.Reads as start-state-reads
-use Rattle.sm3.proofs.constants.turned_constants.Reads as turned-constants-reads
-use Rattle.sm3.proofs.message.message_words.Reads as message-words-reads
 
 -- the record's message, and its block wires
 abbrev messageOf : List ℕ → ℕ → ℕ
@@ -30,65 +26,57 @@ abbrev wires : (ℕ → ℕ) → ℕ → ℕ
 wires m = grid 22528 (λ i. blockWires (blockBits m i) (chain m i))
 
 abbrev Inv-loop : tie.InvT-loop
-Inv-loop out₀ bytes n t v₀ i₀ out v i = (i ≤ n) × (v ≡ chain (messageOf bytes) i) × Wrote 513 (22528 * i) (wires (messageOf bytes)) out₀ out
+Inv-loop out₀ bytes n t v₀ i₀ out v i =
+    (i ≤ n) × (v ≡ chain (messageOf bytes) i) × Wrote 513 (22528 * i) (wires (messageOf bytes)) out₀ out
 
 abbrev μ-loop : tie.MeasureT-loop
 μ-loop out₀ bytes n t v₀ i₀ out v i = n - i
 
--- src/produce.rt:32:14
 add-n : tie.Need-add-n Inv-loop μ-loop
 add-n c = search needs
 
--- src/produce.rt:32:13
 add-n-2 : tie.Need-add-n-2 Inv-loop μ-loop
 add-n-2 c = search needs
 
--- src/produce.rt:33:13
 turned-constants-requires : tie.Need-turned-constants-requires Inv-loop μ-loop
 turned-constants-requires c κs = search needs
 
--- src/produce.rt:34:9
 start-state-requires : tie.Need-start-state-requires Inv-loop μ-loop
 start-state-requires c κs = search needs
 
--- src/produce.rt:35:5
 loop-holds : tie.Need-loop-holds Inv-loop μ-loop
 unfolding chain
 loop-holds c = (omega arith, c .start-state .ensures, wrote-none _ _ _)
 
--- src/produce.rt:36:34
 mul-put-block : tie.Need-mul-put-block Inv-loop μ-loop
 mul-put-block c = search needs
 
--- src/produce.rt:36:28
 add-put-block : tie.Need-add-put-block Inv-loop μ-loop
 add-put-block c = search needs
 
--- src/produce.rt:36:48
 message-words-requires : tie.Need-message-words-requires Inv-loop μ-loop
 unfolding blocks
 message-words-requires c κs = search needs
 
--- src/produce.rt:36:9
 put-block-requires : tie.Need-put-block-requires Inv-loop μ-loop
 unfolding blocks wireCount
 put-block-requires c κs =
-    (c .before .before .before .before .before .before .turned-constants .ensures, omega (arith, c .before .before .before .before .before .before .before .before .before, length-wrote (c .before .before .before .before .loop .inv .2)))
+    let l = c .before .before .before .before in
+    let constants = l .before .before in
+    let start = constants .before .before .before in
+    (constants .turned-constants .ensures, omega (arith, start, length-wrote (l .loop .inv .2)))
 
--- src/produce.rt:35:9
 add-i : tie.Need-add-i Inv-loop μ-loop
 add-i c = search needs
 
--- src/produce.rt:35:5
 loop-less : tie.Need-loop-less Inv-loop μ-loop
 loop-less c = search needs
 
--- src/produce.rt:35:5
 loop-again : tie.Need-loop-again Inv-loop μ-loop
 unfolding blockBits chain
 loop-again c =
     let l = c .before .before .before .before .before .before .before in
-    let bytes = c .before .before .before .before .before .before .before .before .before .before .before .before .args .bytes .now in
+    let bytes = l .before .before .before .before .before .args .bytes .now in
     let m = messageOf bytes in
     let i = l .loop .i in
     let put = c .before .before .put-block .ensures (blockBits m i)
@@ -100,11 +88,9 @@ loop-again c =
           (wrote-as (ap (blockWires (blockBits m i)) (l .loop .inv .1)) (put .1)),
     )
 
--- src/produce.rt:28:1
 same-length : tie.Need-same-length Inv-loop μ-loop
 same-length c = length-wrote (c .before .loop .inv .2)
 
--- src/produce.rt:28:1
 returns : tie.Need-returns Inv-loop μ-loop
 unfolding messageWires blocks
 returns c =

@@ -1,7 +1,9 @@
+-- The values that are written are the round's, so their wires are, and A to H after it are made of them.
 use mathlib.Core.List.{List}
 use mathlib.Core.Path.{_≡_, _∙_, ap}
 use Prim.Native.Nat.{ℕ}
 use native.Mathlib.Omega.{arith}
+use borrow.Author.Needs.{needs}
 use denote.Ref.{now}
 use lib.ListN.{getD}
 use Rattle.assignment.proofs.Writes.{wrote-as}
@@ -11,17 +13,9 @@ use Rattle.sm3.proofs.rounds.Laws.{table-at}
 use Rattle.sm3.specs.Sm3.{FF, GG, P0, SS2, dropped, pairWord, roundOf, sumTT1, sumTT2, sumU}
 use Rattle.sm3.specs.Words.{turn}
 use Rattle.sm3.specs.declared.state.State.{State}
-use borrow.Author.Needs.{needs}
 use Rattle.assignment.proofs.rounds.put_round.Statement.{statement}
 use Rattle.assignment.proofs.rounds.put_round.Tie as tie
-use Rattle.assignment.proofs.rounds.put_round.Reads as reads
-use Rattle.assignment.proofs.rounds.put_round.Lts as lts
-use Rattle.assignment.proofs.rounds.put_values.Reads as put-values-reads
-use Rattle.assignment.proofs.rounds.round_values.Reads as round-values-reads
-use Rattle.assignment.proofs.wires.low.Reads as low-reads
-use Rattle.sm3.proofs.words.turn_left.Reads as turn-left-reads
 
--- src/rounds.rt:95:32
 -- the wires of values that are the round's
 round-wires : (x : List ℕ) (j : ℕ) (s : State) {u ss2 ff gg tt1 tt2 p0 : ℕ} → u ≡ sumU j s → ss2 ≡ SS2 j s
     → ff ≡ FF j (s .a) (s .b) (s .c) → gg ≡ GG j (s .e) (s .f) (s .g) → tt1 ≡ sumTT1 j (pairWord x j) s
@@ -41,73 +35,58 @@ next-is j word pair s a c e g = cc
 mul-round-values : tie.Need-mul-round-values
 mul-round-values c = search needs
 
--- src/rounds.rt:95:32
 element-copy-out-round-values : tie.Need-element-copy-out-round-values
 element-copy-out-round-values c = search needs
 
--- src/rounds.rt:95:38
 mul-round-values-2 : tie.Need-mul-round-values-2
 mul-round-values-2 c = search needs
 
--- src/rounds.rt:95:38
 element-copy-out-round-values-2 : tie.Need-element-copy-out-round-values-2
 element-copy-out-round-values-2 c = search needs
 
--- src/rounds.rt:95:44
 mul-round-values-3 : tie.Need-mul-round-values-3
 mul-round-values-3 c = search needs
 
--- src/rounds.rt:95:44
 element-copy-out-round-values-3 : tie.Need-element-copy-out-round-values-3
 element-copy-out-round-values-3 c = search needs
 
--- src/rounds.rt:95:53
 add-round-values : tie.Need-add-round-values
 add-round-values c = search needs
 
--- src/rounds.rt:95:51
 mul-round-values-4 : tie.Need-mul-round-values-4
 mul-round-values-4 c = search needs
 
--- src/rounds.rt:95:51
 element-copy-out-round-values-4 : tie.Need-element-copy-out-round-values-4
 element-copy-out-round-values-4 c = search needs
 
--- src/rounds.rt:95:9
 round-values-requires : tie.Need-round-values-requires
 round-values-requires c κs = table-at _ _ (omega arith) (c .before .before .before .before .before .pre .1)
 
--- src/rounds.rt:96:5
 put-values-requires : tie.Need-put-values-requires
 put-values-requires c κs = search needs
 
--- src/rounds.rt:98:12
 low-requires : tie.Need-low-requires
 low-requires c κs = search needs
 
--- src/rounds.rt:100:12
 turn-left-requires : tie.Need-turn-left-requires
 turn-left-requires c κs = search needs
 
--- src/rounds.rt:104:12
 turn-left-requires-2 : tie.Need-turn-left-requires-2
 turn-left-requires-2 c κs = search needs
 
--- src/rounds.rt:90:1
 same-length : tie.Need-same-length
 same-length c = search needs
 
--- src/rounds.rt:90:1
 returns : tie.Need-returns
 unfolding pairWord
 returns c =
-    let computed = c .before .before .before .before .before .before .before .round-values in
-    let put = c .before .before .before .before .before .put-values in
-    let a = c .before .before .before .before .before .before .before .before .before .before .before .before .before .args in
-    let e = computed .ensures in (
+    let put = c .before .before .before .before .before in
+    let computed = put .before .before in
+    let a = computed .before .before .before .before .before .before .args in
+    let e = computed .round-values .ensures in (
       next-is (a .j) _ _ (a .s) (c .before .before .low .ensures ∙ ap dropped (e .4)) (c .before .turn-left .ensures) (e .6)
           (c .turn-left2 .ensures),
-      wrote-as (round-wires (now (a .x)) (a .j) (a .s) (e .0) (e .1) (e .2) (e .3) (e .4) (e .5) (e .6)) (put .ensures),
+      wrote-as (round-wires (now (a .x)) (a .j) (a .s) (e .0) (e .1) (e .2) (e .3) (e .4) (e .5) (e .6)) (put .put-values .ensures),
     )
 
 pub put-round-spec : {M : Type 1} → statement M

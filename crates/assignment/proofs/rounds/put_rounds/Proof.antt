@@ -1,7 +1,9 @@
+-- Before turn j the state is what j rounds have made of v, and the wires of these rounds are written.
 use mathlib.Core.List.{List}
 use mathlib.Core.Path.{_≡_, _∙_, ap, refl, sym}
-use Prim.Native.Nat.{ℕ, _-_, _*_, _≤_}
+use Prim.Native.Nat.{ℕ, _+_, _-_, _*_, _≤_}
 use native.Mathlib.Omega.{arith}
+use borrow.Author.Needs.{needs}
 use denote.Ref.{now}
 use lib.ListN.{getD}
 use Rattle.assignment.specs.Wrote.{Wrote}
@@ -11,13 +13,15 @@ use Rattle.circuit.specs.Sequence.{grid}
 use Rattle.sm3.proofs.rounds.Laws.{rounds-next}
 use Rattle.sm3.specs.Sm3.{pairWord, roundOf, rounds}
 use Rattle.sm3.specs.declared.state.State.{State}
-use borrow.Author.Needs.{needs}
 use Rattle.assignment.proofs.rounds.put_rounds.Statement.{statement}
 use Rattle.assignment.proofs.rounds.put_rounds.Tie as tie
-use Rattle.assignment.proofs.rounds.put_rounds.Reads as reads
-use Rattle.assignment.proofs.rounds.put_rounds.Lts as lts
-use Rattle.assignment.proofs.rounds.put_round.Reads as put-round-reads
 
+-- one round more
+one-more : (x : List ℕ) (v : State) (j : ℕ) {s s′ : State} → s′ ≡ roundOf j (getD x j 0) (pairWord x j) s → s ≡ rounds x v j
+    → s′ ≡ rounds x v (j + 1)
+one-more x v j e d = e ∙ ap (roundOf j (getD x j 0) (pairWord x j)) d ∙ sym (rounds-next x v j)
+
+-- the wires of all rounds
 abbrev wires : List ℕ → State → ℕ → ℕ
 wires x v = grid 230 (λ j. roundWires x j (rounds x v j))
 
@@ -27,32 +31,27 @@ Inv-loop out₀ w x t s₀ j₀ out s j = (j ≤ 64) × (s ≡ rounds x s₀ j) 
 abbrev μ-loop : tie.MeasureT-loop
 μ-loop out₀ w x t s₀ j₀ out s j = 64 - j
 
--- src/rounds.rt:116:5
 loop-holds : tie.Need-loop-holds Inv-loop μ-loop
 unfolding rounds
 loop-holds c = (omega arith, refl, wrote-none _ _ _)
 
--- src/rounds.rt:117:32
 mul-put-round : tie.Need-mul-put-round Inv-loop μ-loop
 mul-put-round c = search needs
 
--- src/rounds.rt:117:28
 add-put-round : tie.Need-add-put-round Inv-loop μ-loop
 add-put-round c = search needs
 
--- src/rounds.rt:117:9
 put-round-requires : tie.Need-put-round-requires Inv-loop μ-loop
-put-round-requires c κs = (omega arith, c .before .before .before .before .pre .0, omega (arith, length-wrote (c .before .before .loop .inv .2)))
+put-round-requires c κs =
+    let l = c .before .before in
+    (omega arith, l .before .before .pre .0, omega (arith, length-wrote (l .loop .inv .2)))
 
--- src/rounds.rt:116:9
 add-j : tie.Need-add-j Inv-loop μ-loop
 add-j c = search needs
 
--- src/rounds.rt:116:5
 loop-less : tie.Need-loop-less Inv-loop μ-loop
 loop-less c = search needs
 
--- src/rounds.rt:116:5
 loop-again : tie.Need-loop-again Inv-loop μ-loop
 loop-again c =
     let l = c .before .before .before .before .before in
@@ -61,16 +60,14 @@ loop-again c =
     let x = now (a .x) in
     let put = c .before .before .put-round in (
       omega arith,
-      put .ensures .0 ∙ ap (roundOf j (getD x j 0) (pairWord x j)) (l .loop .inv .1) ∙ sym (rounds-next x (a .v) j),
+      one-more x (a .v) j (put .ensures .0) (l .loop .inv .1),
       wrote-row (λ j. roundWires x j (rounds x (a .v) j)) j _ refl (l .loop .inv .2)
           (wrote-as (ap (roundWires x j) (l .loop .inv .1)) (put .ensures .1)),
     )
 
--- src/rounds.rt:110:1
 same-length : tie.Need-same-length Inv-loop μ-loop
 same-length c = length-wrote (c .before .loop .inv .2)
 
--- src/rounds.rt:110:1
 returns : tie.Need-returns Inv-loop μ-loop
 returns c =
     let l = c .before .loop in

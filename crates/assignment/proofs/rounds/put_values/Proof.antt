@@ -1,72 +1,54 @@
+-- The seven runs are written one after the other.
 use mathlib.Core.Path.{refl}
 use Prim.Native.Nat.{_+_}
 use native.Mathlib.Omega.{arith}
-use Rattle.assignment.proofs.Writes.{wrote-then}
 use borrow.Author.Needs.{needs}
+use Rattle.assignment.proofs.Writes.{wrote-then}
 use Rattle.assignment.proofs.rounds.put_values.Statement.{statement}
 use Rattle.assignment.proofs.rounds.put_values.Tie as tie
-use Rattle.assignment.proofs.rounds.put_values.Reads as reads
-use Rattle.assignment.proofs.rounds.put_values.Lts as lts
-use Rattle.assignment.proofs.wires.put_sum.Reads as put-sum-reads
-use Rattle.assignment.proofs.wires.put_word.Reads as put-word-reads
 
--- src/rounds.rt:80:5
 put-sum-requires : tie.Need-put-sum-requires
 put-sum-requires c κs = search needs
 
--- src/rounds.rt:81:19
 add-put-word : tie.Need-add-put-word
 add-put-word c = search needs
 
--- src/rounds.rt:81:5
 put-word-requires : tie.Need-put-word-requires
 put-word-requires c κs = search needs
 
--- src/rounds.rt:82:19
 add-put-word-2 : tie.Need-add-put-word-2
 add-put-word-2 c = search needs
 
--- src/rounds.rt:82:5
 put-word-requires-2 : tie.Need-put-word-requires-2
 put-word-requires-2 c κs = search needs
 
--- src/rounds.rt:83:19
 add-put-word-3 : tie.Need-add-put-word-3
 add-put-word-3 c = search needs
 
--- src/rounds.rt:83:5
 put-word-requires-3 : tie.Need-put-word-requires-3
 put-word-requires-3 c κs = search needs
 
--- src/rounds.rt:84:18
 add-put-sum : tie.Need-add-put-sum
 add-put-sum c = search needs
 
--- src/rounds.rt:84:5
 put-sum-requires-2 : tie.Need-put-sum-requires-2
 put-sum-requires-2 c κs = search needs
 
--- src/rounds.rt:85:18
 add-put-sum-2 : tie.Need-add-put-sum-2
 add-put-sum-2 c = search needs
 
--- src/rounds.rt:85:5
 put-sum-requires-3 : tie.Need-put-sum-requires-3
 put-sum-requires-3 c κs = search needs
 
--- src/rounds.rt:86:19
 add-put-word-4 : tie.Need-add-put-word-4
 add-put-word-4 c = search needs
 
--- src/rounds.rt:86:5
 put-word-requires-4 : tie.Need-put-word-requires-4
 put-word-requires-4 c κs = search needs
 
--- src/rounds.rt:76:1
 same-length : tie.Need-same-length
 same-length c = search needs
 
--- src/rounds.rt:76:1
 returns : tie.Need-returns
 returns c =
     let p7 = c .before .before in

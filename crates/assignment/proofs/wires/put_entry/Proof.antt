@@ -1,3 +1,4 @@
+-- The eight writes go to adjacent places, as `sets` writes them, and are the value's digits to the base 256.
 use native.Mathlib.Nat.{div-one}
 use native.Mathlib.Numerals.{towards-suc}
 use native.Mathlib.Omega.{arith}
@@ -8,110 +9,82 @@ use Rattle.circuit.specs.RowAnswer.{leastFirst}
 use Rattle.sm3.specs.Words.{tab}
 use Rattle.assignment.proofs.wires.put_entry.Statement.{statement}
 use Rattle.assignment.proofs.wires.put_entry.Tie as tie
-use Rattle.assignment.proofs.wires.put_entry.Reads as reads
-use Rattle.assignment.proofs.wires.put_entry.Lts as lts
 
--- src/wires.rt:38:14
 mul-at : tie.Need-mul-at
 mul-at c = search needs
 
--- src/wires.rt:39:15
 cast-out : tie.Need-cast-out
 cast-out c = search needs
 
--- src/wires.rt:39:5
 slice-write-out : tie.Need-slice-write-out
 slice-write-out c = search needs
 
--- src/wires.rt:40:19
 cast-out-2 : tie.Need-cast-out-2
 cast-out-2 c = search needs
 
--- src/wires.rt:40:9
 add-out : tie.Need-add-out
 add-out c = search needs
 
--- src/wires.rt:40:5
 slice-write-out-2 : tie.Need-slice-write-out-2
 slice-write-out-2 c = simp length-set (omega arith)
 
--- src/wires.rt:41:19
 cast-out-3 : tie.Need-cast-out-3
 cast-out-3 c = search needs
 
--- src/wires.rt:41:9
 add-out-2 : tie.Need-add-out-2
 add-out-2 c = search needs
 
--- src/wires.rt:41:5
 slice-write-out-3 : tie.Need-slice-write-out-3
 slice-write-out-3 c = simp length-set (omega arith)
 
--- src/wires.rt:42:19
 cast-out-4 : tie.Need-cast-out-4
 cast-out-4 c = search needs
 
--- src/wires.rt:42:9
 add-out-3 : tie.Need-add-out-3
 add-out-3 c = search needs
 
--- src/wires.rt:42:5
 slice-write-out-4 : tie.Need-slice-write-out-4
 slice-write-out-4 c = simp length-set (omega arith)
 
--- src/wires.rt:43:19
 cast-out-5 : tie.Need-cast-out-5
 cast-out-5 c = search needs
 
--- src/wires.rt:43:9
 add-out-4 : tie.Need-add-out-4
 add-out-4 c = search needs
 
--- src/wires.rt:43:5
 slice-write-out-5 : tie.Need-slice-write-out-5
 slice-write-out-5 c = simp length-set (omega arith)
 
--- src/wires.rt:44:19
 cast-out-6 : tie.Need-cast-out-6
 cast-out-6 c = search needs
 
--- src/wires.rt:44:9
 add-out-5 : tie.Need-add-out-5
 add-out-5 c = search needs
 
--- src/wires.rt:44:5
 slice-write-out-6 : tie.Need-slice-write-out-6
 slice-write-out-6 c = simp length-set (omega arith)
 
--- src/wires.rt:45:19
 cast-out-7 : tie.Need-cast-out-7
 cast-out-7 c = search needs
 
--- src/wires.rt:45:9
 add-out-6 : tie.Need-add-out-6
 add-out-6 c = search needs
 
--- src/wires.rt:45:5
 slice-write-out-7 : tie.Need-slice-write-out-7
 slice-write-out-7 c = simp length-set (omega arith)
 
--- src/wires.rt:46:19
 cast-out-8 : tie.Need-cast-out-8
 cast-out-8 c = search needs
 
--- src/wires.rt:46:9
 add-out-7 : tie.Need-add-out-7
 add-out-7 c = search needs
 
--- src/wires.rt:46:5
 slice-write-out-8 : tie.Need-slice-write-out-8
 slice-write-out-8 c = simp length-set (omega arith)
 
--- src/wires.rt:34:1
 same-length : tie.Need-same-length
 same-length c = simp length-set
 
--- src/wires.rt:34:1
 returns : tie.Need-returns
 unfolding entryBytes leastFirst tab
 returns c = record { left = simp (towards-suc, div-one) }

@@ -1,83 +1,64 @@
+-- Each word goes after those before it, so the eight are the rows of the state's grid.
 use mathlib.Core.Path.{refl}
 use Prim.Native.Nat.{ℕ, _+_}
 use native.Mathlib.Omega.{arith}
+use borrow.Author.Needs.{needs}
 use denote.Ref.{now}
 use Rattle.assignment.proofs.Writes.{wrote-none, wrote-row}
 use Rattle.circuit.specs.Layout.{stateWires, wordWires}
 use Rattle.circuit.specs.Sequence.{grid}
 use Rattle.sm3.specs.Sm3.{wordOf}
-use borrow.Author.Needs.{needs}
 use Rattle.assignment.proofs.wires.put_state.Statement.{statement}
 use Rattle.assignment.proofs.wires.put_state.Tie as tie
-use Rattle.assignment.proofs.wires.put_state.Reads as reads
-use Rattle.assignment.proofs.wires.put_state.Lts as lts
-use Rattle.assignment.proofs.wires.put_word.Reads as put-word-reads
 
--- src/wires.rt:74:5
 put-word-requires : tie.Need-put-word-requires
 put-word-requires c κs = search needs
 
--- src/wires.rt:75:19
 add-put-word : tie.Need-add-put-word
 add-put-word c = search needs
 
--- src/wires.rt:75:5
 put-word-requires-2 : tie.Need-put-word-requires-2
 put-word-requires-2 c κs = search needs
 
--- src/wires.rt:76:19
 add-put-word-2 : tie.Need-add-put-word-2
 add-put-word-2 c = search needs
 
--- src/wires.rt:76:5
 put-word-requires-3 : tie.Need-put-word-requires-3
 put-word-requires-3 c κs = search needs
 
--- src/wires.rt:77:19
 add-put-word-3 : tie.Need-add-put-word-3
 add-put-word-3 c = search needs
 
--- src/wires.rt:77:5
 put-word-requires-4 : tie.Need-put-word-requires-4
 put-word-requires-4 c κs = search needs
 
--- src/wires.rt:78:19
 add-put-word-4 : tie.Need-add-put-word-4
 add-put-word-4 c = search needs
 
--- src/wires.rt:78:5
 put-word-requires-5 : tie.Need-put-word-requires-5
 put-word-requires-5 c κs = search needs
 
--- src/wires.rt:79:19
 add-put-word-5 : tie.Need-add-put-word-5
 add-put-word-5 c = search needs
 
--- src/wires.rt:79:5
 put-word-requires-6 : tie.Need-put-word-requires-6
 put-word-requires-6 c κs = search needs
 
--- src/wires.rt:80:19
 add-put-word-6 : tie.Need-add-put-word-6
 add-put-word-6 c = search needs
 
--- src/wires.rt:80:5
 put-word-requires-7 : tie.Need-put-word-requires-7
 put-word-requires-7 c κs = search needs
 
--- src/wires.rt:81:19
 add-put-word-7 : tie.Need-add-put-word-7
 add-put-word-7 c = search needs
 
--- src/wires.rt:81:5
 put-word-requires-8 : tie.Need-put-word-requires-8
 put-word-requires-8 c κs = search needs
 
--- src/wires.rt:70:1
 same-length : tie.Need-same-length
 same-length c = search needs
 
--- src/wires.rt:70:1
 returns : tie.Need-returns
 unfolding stateWires wordOf
 returns c =

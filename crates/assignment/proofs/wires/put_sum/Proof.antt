@@ -1,18 +1,14 @@
+-- The word that is left of the sum, and after it the two bits of what passes 2^32.
 use mathlib.Core.Path.{_≡_, ap, refl}
 use Prim.Native.Nat.{ℕ, _+_, _/_, _%_}
 use native.Mathlib.Omega.{arith}
+use borrow.Author.Needs.{needs}
 use Rattle.assignment.proofs.Writes.{wrote-as, wrote-next, wrote-none, wrote-then}
 use Rattle.circuit.specs.Layout.{carryWires, sumWires, wordWires}
-use borrow.Author.Needs.{needs}
 use Rattle.assignment.proofs.wires.put_sum.Statement.{statement}
 use Rattle.assignment.proofs.wires.put_sum.Tie as tie
-use Rattle.assignment.proofs.wires.put_sum.Reads as reads
-use Rattle.assignment.proofs.wires.put_sum.Lts as lts
-use Rattle.assignment.proofs.wires.low.Reads as low-reads
-use Rattle.assignment.proofs.wires.put_entry.Reads as put-entry-reads
-use Rattle.assignment.proofs.wires.put_word.Reads as put-word-reads
 
--- src/wires.rt:64:22
+-- the carries, the higher first
 higher : (s : ℕ) → s / 8589934592 % 2 ≡ carryWires s 0
 unfolding carryWires
 higher s = omega arith
@@ -24,31 +20,24 @@ lower s = omega arith
 low-requires : tie.Need-low-requires
 low-requires c κs = search needs
 
--- src/wires.rt:64:5
 put-word-requires : tie.Need-put-word-requires
 put-word-requires c κs = search needs
 
--- src/wires.rt:65:20
 add-put-entry : tie.Need-add-put-entry
 add-put-entry c = search needs
 
--- src/wires.rt:65:5
 put-entry-requires : tie.Need-put-entry-requires
 put-entry-requires c κs = search needs
 
--- src/wires.rt:66:20
 add-put-entry-2 : tie.Need-add-put-entry-2
 add-put-entry-2 c = search needs
 
--- src/wires.rt:66:5
 put-entry-requires-2 : tie.Need-put-entry-requires-2
 put-entry-requires-2 c κs = search needs
 
--- src/wires.rt:60:1
 same-length : tie.Need-same-length
 same-length c = search needs
 
--- src/wires.rt:60:1
 returns : tie.Need-returns
 unfolding sumWires
 returns c =

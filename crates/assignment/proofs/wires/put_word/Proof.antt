@@ -1,16 +1,13 @@
+-- Before turn i the first i bits are written; a turn writes the next.
 use mathlib.Core.Path.{_≡_, refl}
 use Prim.Native.Nat.{_-_, _≤_}
 use native.Mathlib.Omega.{arith}
-use Rattle.assignment.specs.Wrote.{Wrote}
-use Rattle.circuit.specs.Layout.{wordWires}
-use Rattle.assignment.proofs.Writes.{length-wrote, wrote-next, wrote-none}
 use borrow.Author.Needs.{needs}
+use Rattle.assignment.specs.Wrote.{Wrote}
+use Rattle.assignment.proofs.Writes.{length-wrote, wrote-next, wrote-none}
+use Rattle.circuit.specs.Layout.{wordWires}
 use Rattle.assignment.proofs.wires.put_word.Statement.{statement}
 use Rattle.assignment.proofs.wires.put_word.Tie as tie
-use Rattle.assignment.proofs.wires.put_word.Reads as reads
-use Rattle.assignment.proofs.wires.put_word.Lts as lts
-use Rattle.assignment.proofs.wires.bit_of.Reads as bit-of-reads
-use Rattle.assignment.proofs.wires.put_entry.Reads as put-entry-reads
 
 abbrev Inv-loop : tie.InvT-loop
 Inv-loop out₀ w x i₀ out i = (i ≤ 32) × Wrote w i (wordWires x) out₀ out
@@ -18,42 +15,35 @@ Inv-loop out₀ w x i₀ out i = (i ≤ 32) × Wrote w i (wordWires x) out₀ ou
 abbrev μ-loop : tie.MeasureT-loop
 μ-loop out₀ w x i₀ out i = 32 - i
 
--- src/wires.rt:54:5
 loop-holds : tie.Need-loop-holds Inv-loop μ-loop
 loop-holds c = (omega arith, wrote-none _ _ _)
 
--- src/wires.rt:55:24
 add-put-entry : tie.Need-add-put-entry Inv-loop μ-loop
 add-put-entry c = search needs
 
--- src/wires.rt:55:31
 bit-of-requires : tie.Need-bit-of-requires Inv-loop μ-loop
 bit-of-requires c κs = search needs
 
--- src/wires.rt:55:9
 put-entry-requires : tie.Need-put-entry-requires Inv-loop μ-loop
 put-entry-requires c κs = omega (arith, length-wrote (c .before .before .before .loop .inv .1))
 
--- src/wires.rt:54:9
 add-i : tie.Need-add-i Inv-loop μ-loop
 add-i c = search needs
 
--- src/wires.rt:54:5
 loop-less : tie.Need-loop-less Inv-loop μ-loop
 loop-less c = search needs
 
--- src/wires.rt:54:5
 loop-again : tie.Need-loop-again Inv-loop μ-loop
 unfolding wordWires
 loop-again c =
-    let l = c .before .before .before .before .before .before in
-    (omega arith, wrote-next _ refl (c .before .before .before .bit-of .ensures) (l .loop .inv .1) (c .before .before .put-entry .ensures))
+    let put = c .before .before in
+    let bit = put .before in
+    let l = bit .before .before .before in
+    (omega arith, wrote-next _ refl (bit .bit-of .ensures) (l .loop .inv .1) (put .put-entry .ensures))
 
--- src/wires.rt:50:1
 same-length : tie.Need-same-length Inv-loop μ-loop
 same-length c = length-wrote (c .before .loop .inv .1)
 
--- src/wires.rt:50:1
 returns : tie.Need-returns Inv-loop μ-loop
 returns c =
     let all : c .before .loop .i ≡ 32 = omega arith in
