@@ -1,0 +1,28 @@
+/* The C side of the bench: plain C11, written for speed. */
+
+#ifndef BASELINE_H
+#define BASELINE_H
+
+#include <stddef.h>
+#include <stdint.h>
+
+/* The producer: the hash's words in the layout's order, one uint64_t, 0 or 1, for each wire. The record has at most
+ * 1,015 bytes and out has room for all wires. */
+void baseline_produce(const uint8_t *record, size_t length, uint64_t *out);
+
+/* The rows as a stored sparse matrix. Sum k (A, B, C of row 0, A, B, C of row 1, ..) has the terms from ends[k] to
+ * before ends[k + 1]. */
+struct baseline_rows {
+    size_t rows;
+    size_t wires;
+    const uint32_t *ends;
+    const uint32_t *wire;
+    const uint64_t *coefficient;
+};
+
+/* The check: 0, or 7, 8, or 9 with the lowest unsatisfied row from bit 8 on. The assignment has `wires` entries of 8
+ * bytes; values has room for as many and takes them modulo p. */
+uint64_t baseline_check(const struct baseline_rows *matrix, const uint8_t digest[32], const uint8_t *assignment,
+                        uint64_t *values);
+
+#endif

@@ -1,0 +1,25 @@
+#!/bin/sh
+# Times libsm3rows.a beside OpenSSL, plain C and the judge, in one run. Prints a table; writes bench.csv and bench.svg
+# into target/bench, or into the folder that BENCH_OUT names. Arguments: [--runs N].
+#
+# SM3ROWS_LIB names the archive; without it, it is the one that `rt staticlib sm3rows` writes. ROWS_PROGRAM names the
+# program `rows`; without it, it is target/bin/rows, and where that is missing the program is left out.
+set -eu
+
+root=$(cd "$(dirname "$0")/.." && pwd)
+SM3ROWS_LIB=${SM3ROWS_LIB:-$root/target/staticlib/libsm3rows.a}
+[ -f "$SM3ROWS_LIB" ] || { echo "no archive: run 'rt staticlib sm3rows' first" >&2; exit 1; }
+export SM3ROWS_LIB
+export CARGO_TARGET_DIR="$root/target/judge"
+out=${BENCH_OUT:-$root/target/bench}
+mkdir -p "$out"
+
+echo 'int main(void) { return 0; }' | gcc -x c - -lcrypto -o /dev/null 2> /dev/null ||
+    apt-get install -y gcc libssl-dev > /dev/null
+
+cargo build --quiet --release -j1 --manifest-path "$root/bench/Cargo.toml"
+program=${ROWS_PROGRAM:-$root/target/bin/rows}
+[ -x "$program" ] && set -- "$@" --program "$program"
+"$CARGO_TARGET_DIR/release/bench" --csv "$out/bench.csv" "$@"
+python3 "$root/bench/plot.py" "$out/bench.csv" "$out/bench.svg"
+echo "written: bench.csv and bench.svg"

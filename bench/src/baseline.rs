@@ -1,0 +1,74 @@
+//! The C side, `baseline.h`, on slices.
+
+use judge::forms::RowTable;
+use judge::length::Length;
+
+#[repr(C)]
+struct RowsOfC {
+    rows: usize,
+    wires: usize,
+    ends: *const u32,
+    wire: *const u32,
+    coefficient: *const u64,
+}
+
+extern "C" {
+    fn baseline_produce(record: *const u8, length: usize, out: *mut u64);
+    fn baseline_check(
+        matrix: *const RowsOfC,
+        digest: *const [u8; 32],
+        assignment: *const u8,
+        values: *mut u64,
+    ) -> u64;
+}
+
+/// The record's assignment; `out` must have room for all wires.
+pub fn produce(record: &[u8], out: &mut [u64]) {
+    let length = Length::of(record).expect("a record in range");
+    assert!(out.len() >= length.wires());
+    unsafe { baseline_produce(record.as_ptr(), record.len(), out.as_mut_ptr()) }
+}
+
+/// The rows as a stored sparse matrix, built once outside the timing.
+pub struct Matrix {
+    rows: usize,
+    wires: usize,
+    ends: Vec<u32>,
+    wire: Vec<u32>,
+    coefficient: Vec<u64>,
+    values: Vec<u64>,
+}
+
+impl Matrix {
+    pub fn new(length: Length, table: &RowTable) -> Matrix {
+        let (mut ends, mut wire, mut coefficient) = (vec![0], Vec::new(), Vec::new());
+        for (_, row) in table.iter() {
+            for sum in [row.a, row.b, row.c] {
+                wire.extend(sum.iter().map(|term| term.wire.0));
+                coefficient.extend(sum.iter().map(|term| term.coefficient));
+                ends.push(wire.len() as u32);
+            }
+        }
+        Matrix {
+            rows: table.count(),
+            wires: length.wires(),
+            ends,
+            wire,
+            coefficient,
+            values: vec![0; length.wires()],
+        }
+    }
+
+    pub fn check(&mut self, digest: &[u8; 32], assignment: &[u8]) -> u64 {
+        assert_eq!(assignment.len(), 8 * self.wires);
+        let matrix = RowsOfC {
+            rows: self.rows,
+            wires: self.wires,
+            ends: self.ends.as_ptr(),
+            wire: self.wire.as_ptr(),
+            coefficient: self.coefficient.as_ptr(),
+        };
+        let values = self.values.as_mut_ptr();
+        unsafe { baseline_check(&matrix, digest, assignment.as_ptr(), values) }
+    }
+}

@@ -1,0 +1,185 @@
+//! The speed of libsm3rows.a beside OpenSSL, plain C and the judge, in one
+//! run: `bench [--runs N] [--csv FILE] [--program FILE]`.
+
+mod baseline;
+mod measures;
+mod timing;
+
+use std::fmt::Write;
+use std::fs;
+use std::path::Path;
+use std::process::ExitCode;
+
+use measures::OURS;
+use timing::Figure;
+
+/// Records of 1, 2, 4, 8 and 16 blocks, the longest of each.
+const GROWTH: [u64; 5] = [55, 119, 247, 503, 1015];
+
+struct Options {
+    runs: u32,
+    csv: Option<String>,
+    program: Option<String>,
+}
+
+fn options(arguments: &[String]) -> Option<Options> {
+    let mut options = Options {
+        runs: 15,
+        csv: None,
+        program: None,
+    };
+    let mut words = arguments.iter();
+    while let Some(word) = words.next() {
+        let value = words.next()?;
+        match word.as_str() {
+            "--runs" => options.runs = value.parse().ok()?,
+            "--csv" => options.csv = Some(value.clone()),
+            "--program" => options.program = Some(value.clone()),
+            _ => return None,
+        }
+    }
+    Some(options)
+}
+
+/// The target of a ratio, where the side has one.
+fn target(side: &str) -> Option<f64> {
+    match side {
+        "openssl" | "c-sparse" => Some(1.0),
+        "c-loop" => Some(1.5),
+        _ => None,
+    }
+}
+
+fn print_heading() {
+    println!("measure   bytes blocks   sm3rows us     other us  other side        ratio  target");
+}
+
+/// One measure at one length: a line for every side beside ours.
+fn print_measure(figures: &[Figure]) {
+    let (ours, others) = figures.split_first().expect("our side stands first");
+    let us = |figure: &Figure| figure.nanoseconds / 1000.0;
+    for other in others {
+        let ratio = us(ours) / us(other);
+        let target = match target(other.side) {
+            Some(most) if ratio <= most => format!("{most:.1} met"),
+            Some(most) => format!("{most:.1} MISSED"),
+            None => String::from("-"),
+        };
+        println!(
+            "{:8} {:>6} {:>6} {:>12.2} {:>12.2}  {:16} {ratio:>6.2}  {target}",
+            ours.measure,
+            ours.bytes,
+            ours.blocks,
+            us(ours),
+            us(other),
+            other.side
+        );
+    }
+}
+
+/// How far times over the blocks are from a straight line: the largest
+/// deviation, as a part of the time. The line is the one of least squares of
+/// such deviations.
+fn deviation(points: &[(f64, f64)]) -> f64 {
+    let sum = |of: &dyn Fn(f64, f64) -> f64| -> f64 {
+        points.iter().map(|&(x, y)| of(x, y) / (y * y)).sum()
+    };
+    let (n, x, y) = (sum(&|_, _| 1.0), sum(&|x, _| x), sum(&|_, y| y));
+    let (xx, xy) = (sum(&|x, _| x * x), sum(&|x, y| x * y));
+    let slope = (n * xy - x * y) / (n * xx - x * x);
+    let line = |blocks: f64| (y - slope * x) / n + slope * blocks;
+    let off = points.iter().map(|&(x, y)| (line(x) / y - 1.0).abs());
+    off.fold(0.0, f64::max)
+}
+
+fn print_growth(figures: &[Figure], measure: &str) {
+    let ours = figures
+        .iter()
+        .filter(|figure| figure.measure == measure && figure.side == OURS);
+    let points: Vec<(f64, f64)> = ours
+        .map(|figure| (figure.blocks as f64, figure.nanoseconds))
+        .collect();
+    print!("{measure:8} us a block over 1, 2, 4, 8, 16 blocks:");
+    for (blocks, nanoseconds) in &points {
+        print!(" {:.2}", nanoseconds / blocks / 1000.0);
+    }
+    println!(
+        "; off a straight line by at most {:.0} %",
+        100.0 * deviation(&points)
+    );
+}
+
+fn csv(figures: &[Figure]) -> String {
+    let mut text = String::from("measure,bytes,blocks,side,nanoseconds\n");
+    for figure in figures {
+        let Figure {
+            measure,
+            bytes,
+            blocks,
+            side,
+            nanoseconds,
+        } = figure;
+        let _ = writeln!(text, "{measure},{bytes},{blocks},{side},{nanoseconds:.1}");
+    }
+    text
+}
+
+fn processor() -> String {
+    let text = fs::read_to_string("/proc/cpuinfo").unwrap_or_default();
+    let line = text.lines().find(|line| line.starts_with("model name"));
+    let name = line.and_then(|line| line.split(':').nth(1));
+    name.unwrap_or("unknown").trim().to_string()
+}
+
+fn measure_all(runs: u32) -> Vec<Figure> {
+    print_heading();
+    let mut all = Vec::new();
+    let mut take = |figures: Vec<Figure>| {
+        print_measure(&figures);
+        all.extend(figures);
+    };
+    for length in [0, 63, 1015] {
+        take(measures::digest(length, runs));
+    }
+    for length in GROWTH {
+        take(measures::produce(length, runs));
+    }
+    for length in GROWTH {
+        take(measures::check(length, runs));
+    }
+    all
+}
+
+fn main() -> ExitCode {
+    let arguments: Vec<String> = std::env::args().skip(1).collect();
+    let Some(options) = options(&arguments) else {
+        eprintln!("usage: bench [--runs N] [--csv FILE] [--program FILE]");
+        return ExitCode::from(2);
+    };
+    println!(
+        "best of {} runs, processor time; {}",
+        options.runs,
+        processor()
+    );
+    println!(
+        "C side: {}; {}",
+        env!("BASELINE_BUILD"),
+        host::openssl::version()
+    );
+    let figures = measure_all(options.runs);
+    print_growth(&figures, "produce");
+    print_growth(&figures, "check");
+    if let Some(program) = options.program {
+        match measures::lines_a_second(Path::new(&program)) {
+            Ok(lines) => println!("rows     {lines:.0} lines a second"),
+            Err(error) => println!("rows     {error}"),
+        }
+    }
+    if let Some(file) = options.csv {
+        if let Err(error) = fs::write(&file, csv(&figures)) {
+            eprintln!("{file}: {error}");
+            return ExitCode::FAILURE;
+        }
+    }
+    ExitCode::SUCCESS
+}

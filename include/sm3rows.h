@@ -1,0 +1,74 @@
+/* SM3 record rows over the prime p = 2^61 - 1: the four operations for a C host.
+ *
+ * The answer of every call is one 64-bit number. Its low byte is the refusal's number, 0 for none. What stands above it:
+ *   - sm3rows_row without a refusal: how many terms A, B and C have, in bits 8 to 15, 16 to 23 and 24 to 31;
+ *   - refusal 9: the lowest row that is not satisfied, from bit 8 on;
+ *   - otherwise 0.
+ *
+ * Refusals, in the order in which they are looked for. A call skips those that it has no argument for. A refused call
+ * changes no byte.
+ *   2  the record length is above 1,015
+ *   3  the row number is not below the row count
+ *   4  the buffer to be written is shorter than 32 bytes (digest), 1,956 (row) or 8 x wires (assignment)
+ *   5  the digest that an assignment is held against is not 32 bytes
+ *   6  the assignment is not exactly 8 x wires bytes
+ *   7  wire 0 does not read as 1
+ *   8  a digest wire does not read as its bit of the digest
+ *   9  a row is not satisfied
+ * (1 is a refusal of the program `rows` alone.)
+ *
+ * What the host owes:
+ *   - A pointer and the length after it are a slice of memory that the host may read, and write where it is `out`.
+ *   - Slices of one call do not overlap.
+ *   - An empty slice may be null: its pointer is not used.
+ *   - Nobody writes a slice while it is lent, and nobody reads `out` until the call has returned.
+ *   - Stack: NOT YET MEASURED bytes below the call are enough (bench/stack.sh measures it).
+ * Slices may begin at any address. Calls keep nothing: any number of threads may call at once. */
+
+#ifndef SM3ROWS_H
+#define SM3ROWS_H
+
+#include <stddef.h>
+#include <stdint.h>
+
+#ifdef __cplusplus
+extern "C" {
+#endif
+
+/* Sizes for a record of `length` bytes, 0 to 1,015. */
+#define SM3ROWS_LONGEST 1015u
+#define SM3ROWS_DIGEST_BYTES 32u
+#define SM3ROWS_ROW_BYTES 1956u
+#define SM3ROWS_BLOCKS(length) (((uint64_t)(length) + 8) / 64 + 1)
+#define SM3ROWS_WIRES(length) (513 + 22528 * SM3ROWS_BLOCKS(length))
+#define SM3ROWS_ROWS(length) (512 + 32320 * SM3ROWS_BLOCKS(length))
+#define SM3ROWS_ASSIGNMENT_BYTES(length) (8 * SM3ROWS_WIRES(length))
+
+/* The parts of an answer. */
+#define SM3ROWS_REFUSAL(answer) ((unsigned)((answer) & 0xff))
+#define SM3ROWS_COUNT_A(answer) ((unsigned)((answer) >> 8 & 0xff))
+#define SM3ROWS_COUNT_B(answer) ((unsigned)((answer) >> 16 & 0xff))
+#define SM3ROWS_COUNT_C(answer) ((unsigned)((answer) >> 24 & 0xff))
+#define SM3ROWS_FAILING_ROW(answer) ((uint64_t)(answer) >> 8)
+
+/* The SM3 digest of the record into the first 32 bytes of out. Refusals 2, 4. */
+uint64_t sm3rows_digest(const uint8_t *record, size_t record_len, uint8_t *out, size_t out_len);
+
+/* Row number `row` for records of `length` bytes into out: the terms of A, then of B, then of C, 12 bytes each (wire 4,
+ * coefficient 8, least byte first). Bytes of out past the terms keep their value. Refusals 2, 3, 4. */
+uint64_t sm3rows_row(uint64_t length, uint64_t row, uint8_t *out, size_t out_len);
+
+/* The whole assignment of the record into the first 8 x wires bytes of out: 8 bytes a wire, least byte first, each the
+ * number 0 or 1. Bytes of out past it keep their value. Refusals 2, 4. */
+uint64_t sm3rows_produce(const uint8_t *record, size_t record_len, uint8_t *out, size_t out_len);
+
+/* Whether the assignment, its entries read modulo p, satisfies every row for records of `length` bytes and has this
+ * digest. 0 when it does. Refusals 2, 5, 6, 7, 8, 9. */
+uint64_t sm3rows_check(uint64_t length, const uint8_t *digest, size_t digest_len, const uint8_t *assignment,
+                       size_t assignment_len);
+
+#ifdef __cplusplus
+}
+#endif
+
+#endif

@@ -1,0 +1,173 @@
+//! One call of the library beside the same call of the judge: the answer and
+//! every byte of the memory around the lent slices are compared.
+
+use host::Empty;
+use judge::check::check_with;
+use judge::forms::{Row, RowTable};
+use judge::length::Length;
+use judge::operations::{self, Counts};
+use judge::refusal::Refusal;
+use judge::sm3;
+
+use crate::lent::Lent;
+use crate::packing::{self, told};
+use crate::random::Random;
+use crate::tally::{Operation, Tally};
+
+/// The calls of one job with its numbers and its tally.
+pub struct Calls {
+    pub random: Random,
+    pub tally: Tally,
+}
+
+impl Calls {
+    pub fn new(seed: u64, stream: u64) -> Calls {
+        Calls {
+            random: Random::new(seed, stream),
+            tally: Tally::default(),
+        }
+    }
+
+    fn empty(&mut self) -> Empty {
+        self.random.pick(&[Empty::Null, Empty::Address])
+    }
+
+    /// Compares two answers and counts the call.
+    fn answers(&mut self, operation: Operation, judged: u64, answer: u64, what: &str) {
+        self.tally.call(operation, (judged & 0xff) as u8);
+        if judged != answer {
+            let (judged, answer) = (told(judged), told(answer));
+            self.tally.difference(format!(
+                "{operation:?}, {what}: the judge has {judged}, the library {answer}"
+            ));
+        }
+    }
+
+    /// Compares memory around a lent slice with what it must hold.
+    fn memory(&mut self, operation: Operation, slice: &str, must: &Lent, holds: &Lent, what: &str) {
+        if must != holds {
+            let at = must.first_difference(holds);
+            self.tally.difference(format!(
+                "{operation:?}, {what}: the {slice}'s memory differs, first at byte {at:?} of it"
+            ));
+        }
+    }
+
+    /// The digest of a record into a buffer of that length. Where there is a
+    /// result, OpenSSL's must be the same.
+    pub fn digest(&mut self, record: &[u8], out_len: usize) {
+        let what = format!("record of {} bytes, buffer of {out_len}", record.len());
+        let lent = Lent::holding(record, &mut self.random);
+        let (before, empty) = (lent.clone(), self.empty());
+        let mut out = Lent::buffer(out_len, &mut self.random);
+        let mut must = out.clone();
+        let judged = operations::digest(record, must.slice_mut());
+        let answer = host::digest(empty, lent.slice(), out.slice_mut());
+        self.answers(Operation::Digest, packing::plain(judged), answer, &what);
+        self.memory(Operation::Digest, "record", &before, &lent, &what);
+        self.memory(Operation::Digest, "buffer", &must, &out, &what);
+        if judged.is_ok() {
+            self.tally.count("digests compared with OpenSSL's", 1);
+            if host::openssl::one_call(record) != sm3::hash(record) {
+                let text = format!("Digest, {what}: OpenSSL and the judge differ");
+                self.tally.difference(text);
+            }
+        }
+    }
+
+    /// The assignment of a record into a buffer of that length.
+    pub fn produce(&mut self, record: &[u8], out_len: usize) {
+        let what = format!("record of {} bytes, buffer of {out_len}", record.len());
+        let lent = Lent::holding(record, &mut self.random);
+        let (before, empty) = (lent.clone(), self.empty());
+        let mut out = Lent::buffer(out_len, &mut self.random);
+        let mut must = out.clone();
+        let judged = packing::plain(operations::produce(record, must.slice_mut()));
+        let answer = host::produce(empty, lent.slice(), out.slice_mut());
+        self.answers(Operation::Produce, judged, answer, &what);
+        self.memory(Operation::Produce, "record", &before, &lent, &what);
+        self.memory(Operation::Produce, "buffer", &must, &out, &what);
+    }
+
+    /// One row into a buffer of that length. The table must be that of the
+    /// length where the length is in range.
+    pub fn row(&mut self, table: &RowTable, length: u64, row: u64, out_len: usize) {
+        self.row_by(length, row, out_len, |buffer| {
+            operations::row_with(table, Length::new(length)?, row, buffer)
+        });
+    }
+
+    /// The same with the judge's row at hand.
+    pub fn row_at_hand(&mut self, at_hand: Row<'_>, length: u64, row: u64, out_len: usize) {
+        self.row_by(length, row, out_len, |buffer| {
+            operations::row_at_hand(at_hand, buffer)
+        });
+    }
+
+    fn row_by(
+        &mut self,
+        length: u64,
+        row: u64,
+        out_len: usize,
+        judge: impl Fn(&mut [u8]) -> Result<Counts, Refusal>,
+    ) {
+        let what = format!("length {length}, row {row}, buffer of {out_len}");
+        let empty = self.empty();
+        let mut out = Lent::buffer(out_len, &mut self.random);
+        let mut must = out.clone();
+        let judged = judge(must.slice_mut());
+        let answer = host::row(empty, length, row, out.slice_mut());
+        self.answers(Operation::Row, packing::row(judged), answer, &what);
+        self.memory(Operation::Row, "buffer", &must, &out, &what);
+    }
+
+    /// The check. The table must be that of the length where the length is
+    /// in range. Returns the judge's answer.
+    pub fn check(
+        &mut self,
+        table: &RowTable,
+        length: u64,
+        digest: &[u8],
+        assignment: &[u8],
+        note: &str,
+    ) -> Result<(), Refusal> {
+        let judged =
+            Length::new(length).and_then(|length| check_with(table, length, assignment, digest));
+        self.check_known(judged, length, digest, assignment, note);
+        judged
+    }
+
+    /// The check with an answer that is known.
+    pub fn check_known(
+        &mut self,
+        known: Result<(), Refusal>,
+        length: u64,
+        digest: &[u8],
+        assignment: &[u8],
+        note: &str,
+    ) {
+        let what = format!("length {length}, {note}");
+        let held = Lent::holding(digest, &mut self.random);
+        let read = Lent::holding(assignment, &mut self.random);
+        let (held_before, read_before) = (held.clone(), read.clone());
+        let empty = self.empty();
+        let answer = host::check(empty, length, held.slice(), read.slice());
+        self.answers(Operation::Check, packing::plain(known), answer, &what);
+        self.memory(Operation::Check, "digest", &held_before, &held, &what);
+        self.memory(Operation::Check, "assignment", &read_before, &read, &what);
+        if let Err(Refusal::Unsatisfied(row)) = known {
+            self.tally.failing_row(length, row.0);
+        }
+    }
+
+    /// States a refusal's number that the judge's own answer must have too:
+    /// a slip of the judge in the order of refusals would show here.
+    pub fn must_be(&mut self, number: u8, judged: Result<(), Refusal>, what: &str) {
+        let judged = judged.map_or_else(Refusal::number, |()| 0);
+        if judged != number {
+            self.tally.difference(format!(
+                "{what}: the judge refuses by {judged}, the paper by {number}"
+            ));
+        }
+    }
+}

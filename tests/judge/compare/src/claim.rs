@@ -1,0 +1,85 @@
+//! A claim: an assignment with the digest that it is held against.
+
+use judge::field::P;
+use judge::forms::RowTable;
+use judge::length::Length;
+use judge::{layout, rows, sm3};
+
+use crate::random::Random;
+
+/// The rows of a length, with the length.
+pub struct Ground {
+    pub length: Length,
+    pub table: RowTable,
+}
+
+impl Ground {
+    pub fn new(bytes: u64) -> Ground {
+        let length = Length::new(bytes).expect("a length in range");
+        let table = rows::rows(length);
+        Ground { length, table }
+    }
+
+    pub fn bytes(&self) -> u64 {
+        self.length.bytes() as u64
+    }
+
+    /// A right claim of a random record of this length.
+    pub fn claim(&self, random: &mut Random) -> Claim {
+        let record = random.bytes(self.length.bytes());
+        Claim::of(&record)
+    }
+}
+
+#[derive(Clone)]
+pub struct Claim {
+    pub digest: [u8; 32],
+    pub assignment: Vec<u8>,
+    /// What was done to it, for the report of a difference.
+    pub note: String,
+}
+
+impl Claim {
+    pub fn of(record: &[u8]) -> Claim {
+        Claim {
+            digest: sm3::hash(record),
+            assignment: layout::assignment(record),
+            note: String::from("a record's own"),
+        }
+    }
+
+    pub fn wires(&self) -> usize {
+        self.assignment.len() / 8
+    }
+
+    pub fn entry(&self, wire: usize) -> u64 {
+        let eight = &self.assignment[8 * wire..8 * wire + 8];
+        u64::from_le_bytes(eight.try_into().expect("eight bytes"))
+    }
+
+    pub fn set(&mut self, wire: usize, value: u64) {
+        self.assignment[8 * wire..8 * wire + 8].copy_from_slice(&value.to_le_bytes());
+    }
+
+    /// Adds a random multiple of p to every entry, up to what 8 bytes hold;
+    /// a bit may take 0 to 8 times p.
+    pub fn shift(&mut self, random: &mut Random) {
+        for wire in 0..self.wires() {
+            let value = self.entry(wire);
+            let most = (u64::MAX - value) / P;
+            self.set(wire, value + P * random.below(most as usize + 1) as u64);
+        }
+        self.note += ", shifted by multiples of p";
+    }
+
+    /// Adds the same multiple of p to every entry that can take it.
+    pub fn shift_all(&mut self, times: u64) {
+        for wire in 0..self.wires() {
+            let value = self.entry(wire);
+            if (u64::MAX - value) / P >= times {
+                self.set(wire, value + P * times);
+            }
+        }
+        self.note += &format!(", every entry shifted by {times} p");
+    }
+}

@@ -1,0 +1,143 @@
+//! Compares the C library libsm3rows.a with the judge and with OpenSSL.
+//!
+//! `compare [--short | --full] [--seed N] [--threads N] [--program FILE]`
+//! `compare --soak MINUTES [--seed N]`
+//!
+//! Leaves with 0 when nothing differs, with 1 when something does, with 2
+//! when the arguments are not understood.
+
+mod calls;
+mod claim;
+mod damage;
+mod forge;
+mod lent;
+mod packing;
+mod plan;
+mod program;
+mod random;
+mod refusals;
+mod sections;
+mod soak;
+mod tally;
+
+use std::io::{stderr, IsTerminal, Write};
+use std::path::PathBuf;
+use std::process::ExitCode;
+use std::sync::atomic::{AtomicUsize, Ordering};
+use std::sync::Mutex;
+use std::thread;
+use std::time::{Duration, Instant};
+
+use calls::Calls;
+use plan::{Amounts, Job};
+use tally::{Tally, TOLD};
+
+const USAGE: &str = "usage: compare [--short | --full] [--seed N] [--threads N] [--program FILE]
+       compare --soak MINUTES [--seed N]";
+
+struct Options {
+    full: bool,
+    soak: Option<f64>,
+    seed: u64,
+    threads: usize,
+    program: Option<PathBuf>,
+}
+
+fn options(arguments: &[String]) -> Option<Options> {
+    let mut options = Options {
+        full: false,
+        soak: None,
+        seed: 1,
+        threads: thread::available_parallelism().map_or(1, |n| n.get()),
+        program: None,
+    };
+    let mut words = arguments.iter().map(String::as_str);
+    while let Some(word) = words.next() {
+        match word {
+            "--short" => options.full = false,
+            "--full" => options.full = true,
+            "--soak" => options.soak = Some(words.next()?.parse().ok()?),
+            "--seed" => options.seed = words.next()?.parse().ok()?,
+            "--threads" => options.threads = words.next()?.parse().ok()?,
+            "--program" => options.program = Some(words.next()?.into()),
+            _ => return None,
+        }
+    }
+    Some(options)
+}
+
+/// A line that is written over on a terminal, and every 10 s elsewhere.
+fn progress(begin: Instant, told: &Mutex<Instant>, done: usize, of: usize, name: &str) {
+    let mut told = told.lock().expect("no thread panicked");
+    let (every, end) = if stderr().is_terminal() {
+        (Duration::from_millis(200), "\x1b[K\r")
+    } else {
+        (Duration::from_secs(10), "\n")
+    };
+    if told.elapsed() >= every {
+        let seconds = begin.elapsed().as_secs();
+        let _ = write!(stderr(), "{seconds:>5} s, {done} of {of} jobs, {name}{end}");
+        *told = Instant::now();
+    }
+}
+
+/// Does all jobs on some threads; stops early when much differs.
+fn compare(jobs: &[Job], seed: u64, threads: usize) -> Tally {
+    let (begin, told) = (Instant::now(), Mutex::new(Instant::now()));
+    let (next, total) = (AtomicUsize::new(0), Mutex::new(Tally::default()));
+    let work = || loop {
+        let number = next.fetch_add(1, Ordering::Relaxed);
+        let Some(job) = jobs.get(number) else { break };
+        progress(begin, &told, number, jobs.len(), &job.name);
+        let mut calls = Calls::new(seed, number as u64);
+        (job.work)(&mut calls);
+        let mut total = total.lock().expect("no thread panicked");
+        total.add(calls.tally);
+        if total.differences.len() >= TOLD {
+            break;
+        }
+    };
+    thread::scope(|scope| {
+        for _ in 0..threads.max(1) {
+            scope.spawn(work);
+        }
+    });
+    total.into_inner().expect("no thread panicked")
+}
+
+/// The comparison with its report. True when nothing differs.
+fn report(options: Options) -> bool {
+    let (amounts, form) = if options.full {
+        (Amounts::full(), "full")
+    } else {
+        (Amounts::short(), "short")
+    };
+    let (seed, threads) = (options.seed, options.threads);
+    println!("{form} comparison, seed {seed}, {threads} threads");
+    let begin = Instant::now();
+    let jobs = plan::jobs(&amounts, seed, options.program);
+    let tally = compare(&jobs, seed, threads);
+    println!("{tally}");
+    for difference in tally.differences.iter().take(TOLD) {
+        println!("DIFFERS: {difference}");
+    }
+    let (calls, seconds) = (tally.calls(), begin.elapsed().as_secs());
+    match tally.differences.len() {
+        0 => println!("{calls} calls in {seconds} s, no difference"),
+        many => println!("{calls} calls in {seconds} s, {many} or more differences"),
+    }
+    tally.differences.is_empty()
+}
+
+fn main() -> ExitCode {
+    let arguments: Vec<String> = std::env::args().skip(1).collect();
+    let Some(options) = options(&arguments) else {
+        eprintln!("{USAGE}");
+        return ExitCode::from(2);
+    };
+    let same = match options.soak {
+        Some(minutes) => soak::soak(options.seed, Duration::from_secs_f64(60.0 * minutes)),
+        None => report(options),
+    };
+    ExitCode::from(u8::from(!same))
+}

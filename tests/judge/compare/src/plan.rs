@@ -1,0 +1,204 @@
+//! The two forms of the comparison as lists of jobs. Every job has a stream
+//! of random numbers of its own, so threads take jobs in any order.
+
+use std::path::PathBuf;
+
+use judge::length::LONGEST;
+
+use crate::calls::Calls;
+use crate::claim::Ground;
+use crate::{program, refusals, sections};
+
+/// How much of everything.
+pub struct Amounts {
+    /// Digests, produced assignments and changed block bits at every length.
+    digests: usize,
+    produced: usize,
+    block_bit_claims: usize,
+    /// Rows and checks at lengths that are multiples of this, counted from
+    /// one drawn by the seed, and at lengths beside block ends.
+    length_step: u64,
+    sampled_rows: usize,
+    some_damages: usize,
+    /// Lengths with whole tables.
+    tables: Vec<u64>,
+    /// Lengths with every way of damage, and how often.
+    damaged: Vec<(u64, usize)>,
+    /// Lengths with wires turned over, and the step from wire to wire.
+    wires: Vec<(u64, usize)>,
+    several_wires: usize,
+    /// Lengths with all refusals, and how often each choice of faults.
+    refused: Vec<(u64, usize)>,
+    lines: usize,
+}
+
+impl Amounts {
+    /// For the gate: a minute at most on two cores.
+    pub fn short() -> Amounts {
+        Amounts {
+            digests: 4,
+            produced: 1,
+            block_bit_claims: 1,
+            length_step: 8,
+            sampled_rows: 200,
+            some_damages: 3,
+            tables: vec![0, 56, 1015],
+            damaged: vec![(9, 40), (100, 12), (1015, 1)],
+            wires: vec![(55, 61), (119, 997), (1015, 40_009)],
+            several_wires: 20,
+            refused: vec![(0, 2), (56, 1)],
+            lines: 40,
+        }
+    }
+
+    pub fn full() -> Amounts {
+        // A whole table for every number of blocks, and some more.
+        let mut tables: Vec<u64> = (1..=16).map(|blocks| 64 * blocks - 9).collect();
+        tables.extend([0, 1, 31, 32, 54, 56, 63, 64, 119, 120, 500, 960]);
+        Amounts {
+            digests: 64,
+            produced: 4,
+            block_bit_claims: 6,
+            length_step: 1,
+            sampled_rows: 1_000,
+            some_damages: 8,
+            tables,
+            damaged: vec![
+                (0, 100),
+                (9, 400),
+                (55, 400),
+                (100, 200),
+                (119, 200),
+                (500, 20),
+                (1015, 20),
+            ],
+            wires: vec![(0, 7), (55, 1), (119, 13), (1015, 997)],
+            several_wires: 400,
+            refused: vec![(0, 20), (55, 20), (56, 10), (500, 2), (1015, 2)],
+            lines: 1_000,
+        }
+    }
+}
+
+type Work = Box<dyn Fn(&mut Calls) + Send + Sync>;
+
+/// A piece of the comparison, by name.
+pub struct Job {
+    pub name: String,
+    pub work: Work,
+}
+
+fn job(name: String, work: impl Fn(&mut Calls) + Send + Sync + 'static) -> Job {
+    let work = Box::new(work);
+    Job { name, work }
+}
+
+/// Wires that one job turns over.
+const WIRES_A_JOB: usize = 500;
+
+/// Lengths at which the number of blocks changes, and their neighbours.
+fn beside_block_end(length: u64) -> bool {
+    matches!(length % 64, 55 | 56) || length == LONGEST
+}
+
+/// All jobs. Those that take long stand first, so that no thread is left
+/// alone with one at the end.
+pub fn jobs(amounts: &Amounts, seed: u64, rows_program: Option<PathBuf>) -> Vec<Job> {
+    let mut jobs = Vec::new();
+    for &length in amounts.tables.iter().rev() {
+        jobs.push(job(
+            format!("whole table of length {length}"),
+            move |calls| {
+                sections::whole_table(calls, &Ground::new(length));
+            },
+        ));
+    }
+    for &(length, count) in amounts.damaged.iter().rev() {
+        jobs.push(job(format!("damages at length {length}"), move |calls| {
+            let ground = Ground::new(length);
+            sections::shifts(calls, &ground);
+            sections::damages(calls, &ground, count);
+        }));
+    }
+    for &(length, step) in amounts.wires.iter().rev() {
+        wire_jobs(&mut jobs, length, step, amounts.several_wires, seed);
+    }
+    for &(length, times) in amounts.refused.iter().rev() {
+        jobs.push(job(format!("refusals at length {length}"), move |calls| {
+            let ground = Ground::new(length);
+            refusals::records(calls, length);
+            refusals::rows(calls, &ground);
+            refusals::checks(calls, &ground, times);
+            refusals::lengths_above(calls, &ground);
+        }));
+    }
+    for length in [3, 55, 100] {
+        jobs.push(job(
+            format!("other lengths' claims at {length}"),
+            move |calls| {
+                sections::other_lengths(calls, &Ground::new(length));
+            },
+        ));
+    }
+    if let Some(path) = rows_program {
+        let count = amounts.lines;
+        jobs.push(job(String::from("the program rows"), move |calls| {
+            program::program(calls, &path, count);
+        }));
+    }
+    length_jobs(&mut jobs, amounts, seed);
+    jobs
+}
+
+/// Wires of one length turned over, some hundreds a job.
+fn wire_jobs(jobs: &mut Vec<Job>, length: u64, step: usize, several: usize, seed: u64) {
+    // Wire 0 is left out; the wires begin anywhere below the step.
+    let first = 1 + seed as usize % step;
+    let wires = 513 + 22_528 * ((length as usize + 8) / 64 + 1);
+    for begin in (first..wires).step_by(step * WIRES_A_JOB) {
+        let end = wires.min(begin + step * WIRES_A_JOB);
+        let name = format!(
+            "wires {begin} to {} turned over at length {length}",
+            end - 1
+        );
+        jobs.push(job(name, move |calls| {
+            sections::each_wire(calls, &Ground::new(length), begin, end, step);
+        }));
+    }
+    // Fewer of them at long records, which take longer.
+    let count = several / (1 + length as usize / 64);
+    jobs.push(job(
+        format!("several wires turned over at length {length}"),
+        move |calls| {
+            sections::several_wires(calls, &Ground::new(length), count);
+        },
+    ));
+}
+
+/// Every length from the longest down.
+fn length_jobs(jobs: &mut Vec<Job>, amounts: &Amounts, seed: u64) {
+    let Amounts {
+        digests,
+        produced,
+        block_bit_claims,
+        length_step,
+        sampled_rows,
+        some_damages,
+        ..
+    } = *amounts;
+    for length in (0..=LONGEST).rev() {
+        let rows = length % length_step == seed % length_step || beside_block_end(length);
+        jobs.push(job(format!("length {length}"), move |calls| {
+            sections::digests(calls, length, digests);
+            sections::produced(calls, length, produced);
+            sections::block_bit_rows(calls, length);
+            sections::block_bit_claims(calls, length, block_bit_claims);
+            if rows {
+                let ground = Ground::new(length);
+                sections::sampled_rows(calls, &ground, sampled_rows);
+                sections::right_claims(calls, &ground);
+                sections::some_damages(calls, &ground, some_damages);
+            }
+        }));
+    }
+}

@@ -1,0 +1,177 @@
+//! Every refusal with every later fault present as well, and buffers that
+//! are short, exact and longer.
+
+use judge::field::P;
+use judge::length::{Length, LONGEST};
+use judge::operations::{DIGEST_BYTES, ROW_BYTES};
+use judge::refusal::Refusal;
+
+use crate::calls::Calls;
+use crate::claim::{Claim, Ground};
+
+/// Lengths out of range; some would be in range after losing upper bits.
+const LENGTHS_OUT: [u64; 9] = [
+    1016,
+    1017,
+    1024,
+    1 << 16,
+    1 << 32,
+    (1 << 32) + 55,
+    1 << 61,
+    1 << 63,
+    u64::MAX,
+];
+
+/// Record lengths out of range that can really be lent.
+const RECORDS_OUT: [usize; 6] = [1016, 1017, 1024, 2048, 65_536, 65_536 + 55];
+
+/// Digest and produce: refusal 2, then 4.
+pub fn records(calls: &mut Calls, bytes: u64) {
+    let exact = Length::new(bytes).map_or(0, Length::assignment_bytes);
+    let in_range = [bytes as usize];
+    for &length in in_range.iter().chain(&RECORDS_OUT) {
+        let record = calls.random.bytes(length);
+        for out_len in (0..=DIGEST_BYTES + 8).chain([DIGEST_BYTES * 4]) {
+            calls.digest(&record, out_len);
+        }
+        for out_len in [
+            0,
+            1,
+            8,
+            exact - 8,
+            exact - 1,
+            exact,
+            exact + 1,
+            exact + 7,
+            exact + 800,
+        ] {
+            calls.produce(&record, out_len);
+        }
+    }
+}
+
+/// Rows: refusal 2, then 3, then 4.
+pub fn rows(calls: &mut Calls, ground: &Ground) {
+    let all = ground.length.rows() as u64;
+    let numbers = [
+        0,
+        all / 2,
+        all - 1,
+        all,
+        all + 1,
+        1 << 32,
+        (1 << 32) + all / 2,
+        1 << 61,
+        P,
+        u64::MAX,
+    ];
+    let sizes = [
+        0,
+        1,
+        11,
+        12,
+        36,
+        ROW_BYTES - 12,
+        ROW_BYTES - 1,
+        ROW_BYTES,
+        ROW_BYTES + 1,
+        ROW_BYTES + 12,
+        5000,
+    ];
+    for length in [ground.bytes()].into_iter().chain(LENGTHS_OUT) {
+        for number in numbers {
+            for size in sizes {
+                calls.row(&ground.table, length, number, size);
+            }
+        }
+    }
+}
+
+/// The six refusals of a check, in their order.
+const CHECK_REFUSALS: [u8; 6] = [2, 5, 6, 7, 8, 9];
+
+/// A claim with the faults of these refusals, and what it is held against.
+struct Faulty {
+    length: u64,
+    digest: Vec<u8>,
+    assignment: Vec<u8>,
+}
+
+fn faulty(calls: &mut Calls, right: &Claim, length: u64, has: impl Fn(u8) -> bool) -> Faulty {
+    let random = &mut calls.random;
+    let mut claim = right.clone();
+    if has(9) {
+        let wire = random.range(257, claim.wires());
+        let turned = 1 - claim.entry(wire);
+        claim.set(wire, random.pick(&[turned, 2, 1 << 60, P - 1]));
+    }
+    if has(8) {
+        let wire = random.pick(&[1, 2, 128, 255, 256]);
+        let turned = 1 - claim.entry(wire);
+        claim.set(wire, random.pick(&[turned, turned + P, 2, P - 1]));
+    }
+    if has(7) {
+        claim.set(0, random.pick(&[0, 2, P, P + 2, P - 1, u64::MAX]));
+    }
+    let mut assignment = claim.assignment;
+    if has(6) {
+        let exact = assignment.len();
+        let block = 8 * 22_528;
+        let sizes = [
+            0,
+            8,
+            exact - 8,
+            exact - 1,
+            exact + 1,
+            exact + 8,
+            exact + block,
+        ];
+        assignment.resize(random.pick(&sizes), 0);
+    }
+    let mut digest = claim.digest.to_vec();
+    if has(5) {
+        digest.resize(random.pick(&[0, 1, 31, 33, 64, 256]), 0);
+    }
+    Faulty {
+        length: if has(2) {
+            random.pick(&LENGTHS_OUT)
+        } else {
+            length
+        },
+        digest,
+        assignment,
+    }
+}
+
+/// The check with every choice of faults, so many times. The first fault in
+/// the order of the refusals must be returned.
+pub fn checks(calls: &mut Calls, ground: &Ground, times: usize) {
+    let right = ground.claim(&mut calls.random);
+    for choice in (0..64u8).cycle().take(64 * times) {
+        let place = |refusal| CHECK_REFUSALS.iter().position(|&r| r == refusal);
+        let has = |refusal| place(refusal).is_some_and(|place| choice >> place & 1 == 1);
+        let Faulty {
+            length,
+            digest,
+            assignment,
+        } = faulty(calls, &right, ground.bytes(), has);
+        let faults: Vec<u8> = CHECK_REFUSALS.into_iter().filter(|&r| has(r)).collect();
+        let note = format!("the faults of refusals {faults:?}");
+        let judged = calls.check(&ground.table, length, &digest, &assignment, &note);
+        calls.must_be(faults.first().copied().unwrap_or(0), judged, &note);
+        calls.tally.count("checks with every choice of faults", 1);
+    }
+}
+
+/// Refusal 2 at every length above 1,015 up to 2,000.
+pub fn lengths_above(calls: &mut Calls, ground: &Ground) {
+    let claim = ground.claim(&mut calls.random);
+    for length in LONGEST + 1..=2_000 {
+        let judged = calls.check(&ground.table, length, &claim.digest, &claim.assignment, "");
+        calls.must_be(Refusal::Length.number(), judged, "a length above 1,015");
+        calls.row(&ground.table, length, 0, ROW_BYTES);
+        let record = calls.random.bytes(length as usize);
+        calls.digest(&record, DIGEST_BYTES);
+        calls.produce(&record, claim.assignment.len());
+    }
+}

@@ -1,0 +1,221 @@
+//! What is compared, section by section. A section makes calls at one length.
+
+use judge::forms::RowNumber;
+use judge::length::{Length, LONGEST};
+use judge::operations::{DIGEST_BYTES, ROW_BYTES};
+use judge::refusal::Refusal;
+use judge::rows;
+
+use crate::calls::Calls;
+use crate::claim::{Claim, Ground};
+use crate::damage::WAYS;
+use crate::forge::forge;
+
+/// Rows before block 0 and rows of a block.
+const START_ROWS: u64 = 256;
+const BLOCK_ROWS: u64 = 32_320;
+
+/// A record of that length: random, and now and then all zeros or all ones.
+fn record(calls: &mut Calls, length: u64) -> Vec<u8> {
+    let length = length as usize;
+    match calls.random.below(8) {
+        0 => vec![0; length],
+        1 => vec![0xff; length],
+        _ => calls.random.bytes(length),
+    }
+}
+
+/// The exact size or a longer one.
+fn enough(calls: &mut Calls, bytes: usize) -> usize {
+    let more = calls.random.range(1, 100);
+    calls.random.pick(&[bytes, bytes + more])
+}
+
+pub fn digests(calls: &mut Calls, length: u64, count: usize) {
+    for _ in 0..count {
+        let record = record(calls, length);
+        let out_len = enough(calls, DIGEST_BYTES);
+        calls.digest(&record, out_len);
+    }
+    calls.tally.count("lengths with digests", 1);
+}
+
+pub fn produced(calls: &mut Calls, length: u64, count: usize) {
+    let exact = Length::new(length).map_or(0, Length::assignment_bytes);
+    for _ in 0..count {
+        let record = record(calls, length);
+        let out_len = enough(calls, exact);
+        calls.produce(&record, out_len);
+    }
+    calls.tally.count("lengths with produced assignments", 1);
+}
+
+/// Every row of a length.
+pub fn whole_table(calls: &mut Calls, ground: &Ground) {
+    for row in 0..ground.length.rows() as u64 {
+        let out_len = enough(calls, ROW_BYTES);
+        calls.row(&ground.table, ground.bytes(), row, out_len);
+    }
+    calls.tally.count("whole tables of rows", 1);
+}
+
+/// The rows of all block bits in the last two blocks, where the padding is.
+/// Nothing here needs the whole table.
+pub fn block_bit_rows(calls: &mut Calls, bytes: u64) {
+    let length = Length::new(bytes).expect("a length in range");
+    for block in length.blocks().saturating_sub(2)..length.blocks() {
+        let first = START_ROWS + BLOCK_ROWS * block as u64;
+        for (number, row) in rows::block_bit_rows(length, block).iter() {
+            let out_len = enough(calls, ROW_BYTES);
+            calls.row_at_hand(row, bytes, first + u64::from(number.0), out_len);
+        }
+    }
+    calls.tally.count("lengths with all rows of padding", 1);
+}
+
+/// So many claims with one block bit changed: a padding bit turned over, a
+/// record bit set to 2. The row of that bit refuses them. Nothing here needs
+/// the whole table.
+pub fn block_bit_claims(calls: &mut Calls, bytes: u64, count: usize) {
+    let length = Length::new(bytes).expect("a length in range");
+    let mut claim = Claim::of(&record(calls, bytes));
+    let (padding, end) = (8 * length.bytes(), 512 * length.blocks());
+    for _ in 0..count {
+        let any = calls.random.below(end);
+        let bit = calls.random.pick(&[padding, end - 1, any]);
+        let wire = 513 + 22_528 * (bit / 512) + bit % 512;
+        let right = claim.entry(wire);
+        let value = if bit < padding { 2 } else { 1 - right };
+        let row = START_ROWS + BLOCK_ROWS * (bit / 512) as u64 + (bit % 512) as u64;
+        let known = Err(Refusal::Unsatisfied(RowNumber(row as u32)));
+        claim.set(wire, value);
+        let note = format!("wire {wire} set to {value}");
+        calls.check_known(known, bytes, &claim.digest, &claim.assignment, &note);
+        claim.set(wire, right);
+    }
+    calls.tally.count("lengths with block bits changed", 1);
+}
+
+/// The first and last rows of every part and so many rows at random.
+pub fn sampled_rows(calls: &mut Calls, ground: &Ground, count: usize) {
+    let (blocks, all) = (ground.length.blocks() as u64, ground.length.rows() as u64);
+    let mut numbers = vec![0, START_ROWS - 1, all - 256, all - 1];
+    for block in 0..blocks {
+        let first = START_ROWS + BLOCK_ROWS * block;
+        numbers.extend([first, first + 511, first + 512, first + BLOCK_ROWS - 1]);
+    }
+    numbers.extend((0..count).map(|_| calls.random.below(all as usize) as u64));
+    for row in numbers {
+        let out_len = enough(calls, ROW_BYTES);
+        calls.row(&ground.table, ground.bytes(), row, out_len);
+    }
+    calls.tally.count("lengths with sampled rows", 1);
+}
+
+fn check(calls: &mut Calls, ground: &Ground, claim: &Claim) {
+    let (digest, assignment) = (&claim.digest, &claim.assignment);
+    let judged = calls.check(
+        &ground.table,
+        ground.bytes(),
+        digest,
+        assignment,
+        &claim.note,
+    );
+    if judged.is_ok() {
+        calls.tally.count("claims accepted", 1);
+    }
+}
+
+/// A right claim, as it is and shifted by multiples of p.
+pub fn right_claims(calls: &mut Calls, ground: &Ground) {
+    let mut claim = ground.claim(&mut calls.random);
+    check(calls, ground, &claim);
+    claim.shift(&mut calls.random);
+    check(calls, ground, &claim);
+    calls
+        .tally
+        .count("lengths with right claims, as they are and shifted", 1);
+}
+
+/// A right claim shifted as a whole by p, 2 p, up to 8 p.
+pub fn shifts(calls: &mut Calls, ground: &Ground) {
+    let right = ground.claim(&mut calls.random);
+    for times in 1..=8 {
+        let mut claim = right.clone();
+        claim.shift_all(times);
+        check(calls, ground, &claim);
+    }
+}
+
+/// So many damages of a right claim, in one way. A quarter is shifted by
+/// multiples of p besides.
+fn damages_of(calls: &mut Calls, ground: &Ground, right: &Claim, way: usize, count: usize) {
+    let (name, damage) = WAYS[way];
+    for _ in 0..count {
+        let mut claim = right.clone();
+        damage(ground, &mut claim, &mut calls.random);
+        if calls.random.one_in(4) {
+            claim.shift(&mut calls.random);
+        }
+        check(calls, ground, &claim);
+    }
+    calls.tally.count(name, count as u64);
+}
+
+/// So many damages in every way.
+pub fn damages(calls: &mut Calls, ground: &Ground, count: usize) {
+    let right = ground.claim(&mut calls.random);
+    for way in 0..WAYS.len() {
+        damages_of(calls, ground, &right, way, count);
+    }
+}
+
+/// So many damages in ways drawn at random.
+pub fn some_damages(calls: &mut Calls, ground: &Ground, count: usize) {
+    let right = ground.claim(&mut calls.random);
+    for _ in 0..count {
+        let way = calls.random.below(WAYS.len());
+        damages_of(calls, ground, &right, way, 1);
+    }
+}
+
+/// Every `step`-th wire from `first` on, before `end`: turned over on the way
+/// by the forge, and set to a number that is no bit in a right claim.
+pub fn each_wire(calls: &mut Calls, ground: &Ground, first: usize, end: usize, step: usize) {
+    let record = calls.random.bytes(ground.length.bytes());
+    let right = Claim::of(&record);
+    for wire in (first..end).step_by(step) {
+        check(calls, ground, &forge(&record, &[wire]));
+        let mut claim = right.clone();
+        let no_bit = calls.random.pick(&[2, 1 << 60, (1 << 61) - 2, u64::MAX]);
+        claim.set(wire, no_bit);
+        claim.note += &format!(", wire {wire} set to {no_bit}");
+        check(calls, ground, &claim);
+        calls.tally.count("wires turned over and set to no bit", 1);
+    }
+}
+
+/// Several wires turned over on the way: the lowest row must be returned.
+pub fn several_wires(calls: &mut Calls, ground: &Ground, count: usize) {
+    let wires = ground.length.wires();
+    for _ in 0..count {
+        let record = calls.random.bytes(ground.length.bytes());
+        let turned: Vec<usize> = (0..calls.random.range(2, 6))
+            .map(|_| calls.random.range(1, wires))
+            .collect();
+        check(calls, ground, &forge(&record, &turned));
+        calls.tally.count("claims with 2 to 5 wires turned over", 1);
+    }
+}
+
+/// Right claims of another length with as many blocks: the padding decides.
+pub fn other_lengths(calls: &mut Calls, ground: &Ground) {
+    let blocks = ground.length.blocks();
+    let same = |&length: &u64| Length::new(length).map(Length::blocks) == Ok(blocks);
+    for length in (0..=LONGEST).filter(same) {
+        let mut claim = Claim::of(&calls.random.bytes(length as usize));
+        claim.note = format!("the claim of a record of {length} bytes");
+        check(calls, ground, &claim);
+        calls.tally.count("claims of another length", 1);
+    }
+}

@@ -1,0 +1,242 @@
+//! The soak: one thread makes mixed calls for some minutes. The judge worked
+//! the answers out beforehand; they must come again and again, and the
+//! process must not grow.
+
+use std::fs;
+use std::time::{Duration, Instant};
+
+use host::Empty;
+use judge::check::check_with;
+use judge::operations::{self, DIGEST_BYTES, ROW_BYTES};
+
+use crate::claim::{Claim, Ground};
+use crate::damage::WAYS;
+use crate::packing::{self, told};
+use crate::random::Random;
+
+/// By how many kB the process may vary once all its memory was used once.
+const SLACK: u64 = 1024;
+const INTERVAL: Duration = Duration::from_secs(10);
+const LENGTHS: [u64; 8] = [0, 1, 55, 56, 63, 119, 300, 1015];
+const ROWS_A_LENGTH: usize = 500;
+/// What buffers hold before a call.
+const OLD: u8 = 0xa5;
+
+/// A record with its right claim.
+struct Record {
+    bytes: Vec<u8>,
+    claim: Claim,
+}
+
+/// A row with the bytes of its terms and its answer.
+struct Listed {
+    length: u64,
+    row: u64,
+    bytes: Vec<u8>,
+    answer: u64,
+}
+
+/// A claim with its answer.
+struct Checked {
+    length: u64,
+    claim: Claim,
+    answer: u64,
+}
+
+/// All calls with their answers, and the buffers they write.
+struct Pool {
+    records: Vec<Record>,
+    rows: Vec<Listed>,
+    checks: Vec<Checked>,
+    buffer: Vec<u8>,
+}
+
+fn listed(ground: &Ground, row: u64) -> Listed {
+    let mut bytes = vec![OLD; ROW_BYTES];
+    let answer = operations::row_with(&ground.table, ground.length, row, &mut bytes);
+    Listed {
+        length: ground.bytes(),
+        row,
+        bytes,
+        answer: packing::row(answer),
+    }
+}
+
+fn checked(ground: &Ground, claim: Claim) -> Checked {
+    let judged = check_with(
+        &ground.table,
+        ground.length,
+        &claim.assignment,
+        &claim.digest,
+    );
+    Checked {
+        length: ground.bytes(),
+        claim,
+        answer: packing::plain(judged),
+    }
+}
+
+impl Pool {
+    fn new(random: &mut Random) -> Pool {
+        let (mut records, mut rows, mut checks) = (Vec::new(), Vec::new(), Vec::new());
+        for length in LENGTHS {
+            let ground = Ground::new(length);
+            for _ in 0..ROWS_A_LENGTH {
+                let row = random.below(ground.length.rows() + 1);
+                rows.push(listed(&ground, row as u64));
+            }
+            let bytes = random.bytes(length as usize);
+            let claim = Claim::of(&bytes);
+            checks.push(checked(&ground, claim.clone()));
+            for (_, damage) in WAYS {
+                let mut damaged = claim.clone();
+                damage(&ground, &mut damaged, random);
+                checks.push(checked(&ground, damaged));
+            }
+            records.push(Record { bytes, claim });
+        }
+        let longest = records.iter().map(|record| record.claim.assignment.len());
+        let buffer = vec![OLD; longest.max().unwrap_or(0)];
+        Pool {
+            records,
+            rows,
+            checks,
+            buffer,
+        }
+    }
+
+    /// A buffer of that length that holds the old byte.
+    fn buffer(&mut self, len: usize) -> &mut [u8] {
+        self.buffer[..len].fill(OLD);
+        &mut self.buffer[..len]
+    }
+
+    /// Whether the answer and the buffer are what they must be.
+    fn told(&self, name: &str, must: u64, answer: u64, bytes: &[u8]) -> Result<(), String> {
+        if answer != must {
+            let (must, answer) = (told(must), told(answer));
+            return Err(format!("{name}: {answer} in the place of {must}"));
+        }
+        if self.buffer[..bytes.len()] != *bytes {
+            return Err(format!("{name}: other bytes than before"));
+        }
+        Ok(())
+    }
+
+    fn digest(&mut self, random: &mut Random) -> Result<(), String> {
+        let record = random.below(self.records.len());
+        self.buffer(DIGEST_BYTES);
+        let Record { bytes, claim } = &self.records[record];
+        let answer = host::digest(Empty::Null, bytes, &mut self.buffer[..DIGEST_BYTES]);
+        self.told("digest", 0, answer, &claim.digest)
+    }
+
+    fn row(&mut self, random: &mut Random) -> Result<(), String> {
+        let number = random.below(self.rows.len());
+        self.buffer(ROW_BYTES);
+        let listed = &self.rows[number];
+        let out = &mut self.buffer[..ROW_BYTES];
+        let answer = host::row(Empty::Null, listed.length, listed.row, out);
+        self.told("row", listed.answer, answer, &listed.bytes)
+    }
+
+    fn produce(&mut self, random: &mut Random) -> Result<(), String> {
+        let record = random.below(self.records.len());
+        let len = self.records[record].claim.assignment.len();
+        self.buffer(len);
+        let Record { bytes, claim } = &self.records[record];
+        let answer = host::produce(Empty::Null, bytes, &mut self.buffer[..len]);
+        self.told("produce", 0, answer, &claim.assignment)
+    }
+
+    fn check(&mut self, random: &mut Random) -> Result<(), String> {
+        let number = random.below(self.checks.len());
+        let Checked {
+            length,
+            claim,
+            answer: must,
+        } = &self.checks[number];
+        let answer = host::check(Empty::Null, *length, &claim.digest, &claim.assignment);
+        self.told("check", *must, answer, &[])
+    }
+
+    /// A call that is refused by the sizes alone, refusals 2 to 6.
+    fn refused(&mut self, random: &mut Random) -> Result<(), String> {
+        let record = random.below(self.records.len());
+        self.buffer(ROW_BYTES);
+        let Record { bytes, claim } = &self.records[record];
+        let (length, none) = (bytes.len() as u64, Empty::Null);
+        let short = &mut self.buffer[..DIGEST_BYTES - 1];
+        let (must, answer) = match random.below(6) {
+            0 => (4, host::digest(none, bytes, short)),
+            1 => (2, host::produce(none, &claim.assignment, short)),
+            2 => (4, host::row(none, length, 0, short)),
+            3 => (3, host::row(none, length, u64::MAX, short)),
+            4 => (5, host::check(none, length, &[], &claim.assignment)),
+            _ => (6, host::check(none, length, &claim.digest, bytes)),
+        };
+        self.told("a refused call", must, answer, &[OLD; ROW_BYTES])
+    }
+
+    /// One call, mostly a short one.
+    fn call(&mut self, random: &mut Random) -> Result<(), String> {
+        match random.below(100) {
+            0..=54 => self.row(random),
+            55..=89 => self.digest(random),
+            90..=94 => self.refused(random),
+            95..=97 => self.produce(random),
+            _ => self.check(random),
+        }
+    }
+}
+
+/// The memory that the process holds, in kB (VmRSS).
+fn resident() -> u64 {
+    let status = fs::read_to_string("/proc/self/status").unwrap_or_default();
+    let line = status.lines().find(|line| line.starts_with("VmRSS:"));
+    let number = line.and_then(|line| line.split_whitespace().nth(1));
+    number.and_then(|kb| kb.parse().ok()).unwrap_or(0)
+}
+
+/// Calls until the interval ends; adds how many there were.
+fn call_until(
+    end: Instant,
+    pool: &mut Pool,
+    random: &mut Random,
+    calls: &mut u64,
+) -> Result<(), String> {
+    while Instant::now() < end {
+        pool.call(random)?;
+        *calls += 1;
+    }
+    Ok(())
+}
+
+/// True when answers and memory stayed as they were.
+pub fn soak(seed: u64, time: Duration) -> bool {
+    let mut random = Random::new(seed, 0);
+    let mut pool = Pool::new(&mut random);
+    let (begin, mut calls, mut settled) = (Instant::now(), 0, None);
+    println!("soak, seed {seed}, {} s", time.as_secs());
+    while begin.elapsed() < time {
+        let end = (Instant::now() + INTERVAL).min(begin + time);
+        if let Err(difference) = call_until(end, &mut pool, &mut random, &mut calls) {
+            println!("difference after {calls} calls: {difference}");
+            return false;
+        }
+        host::give_back_free_memory();
+        let now = resident();
+        println!(
+            "{:>6} s {calls:>12} calls {now:>9} kB",
+            begin.elapsed().as_secs()
+        );
+        // The first interval uses all memory once.
+        let first = *settled.get_or_insert(now);
+        if now > first + SLACK {
+            println!("the process grew from {first} kB to {now} kB");
+            return false;
+        }
+    }
+    println!("{calls} calls, answers and memory steady");
+    true
+}

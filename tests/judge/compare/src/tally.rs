@@ -1,0 +1,95 @@
+//! What was compared, and the differences that were found.
+
+use std::collections::{BTreeMap, HashSet};
+use std::fmt;
+
+/// How many differences are told in full; the run stops at as many.
+pub const TOLD: usize = 20;
+
+#[derive(Clone, Copy, Debug)]
+pub enum Operation {
+    Digest,
+    Row,
+    Produce,
+    Check,
+}
+
+const OPERATIONS: [(Operation, &str); 4] = [
+    (Operation::Digest, "digest"),
+    (Operation::Row, "row"),
+    (Operation::Produce, "produce"),
+    (Operation::Check, "check"),
+];
+
+#[derive(Default)]
+pub struct Tally {
+    /// Calls by operation and by the judge's refusal, 0 for none.
+    calls: [[u64; 10]; 4],
+    /// Other things counted, by their name.
+    counts: BTreeMap<&'static str, u64>,
+    /// Rows seen as the failing one: record length and row number.
+    failing: HashSet<(u64, u32)>,
+    pub differences: Vec<String>,
+}
+
+impl Tally {
+    pub fn call(&mut self, operation: Operation, refusal: u8) {
+        self.calls[operation as usize][usize::from(refusal)] += 1;
+    }
+
+    pub fn count(&mut self, name: &'static str, more: u64) {
+        *self.counts.entry(name).or_default() += more;
+    }
+
+    pub fn failing_row(&mut self, length: u64, row: u32) {
+        self.failing.insert((length, row));
+    }
+
+    pub fn difference(&mut self, text: String) {
+        if self.differences.len() < TOLD {
+            self.differences.push(text);
+        }
+    }
+
+    pub fn calls(&self) -> u64 {
+        self.calls.iter().flatten().sum()
+    }
+
+    pub fn add(&mut self, other: Tally) {
+        for (into, from) in self.calls.iter_mut().zip(other.calls) {
+            for (into, from) in into.iter_mut().zip(from) {
+                *into += from;
+            }
+        }
+        for (name, more) in other.counts {
+            self.count(name, more);
+        }
+        self.failing.extend(other.failing);
+        self.differences.extend(other.differences);
+    }
+}
+
+impl fmt::Display for Tally {
+    fn fmt(&self, f: &mut fmt::Formatter<'_>) -> fmt::Result {
+        writeln!(f, "answers compared, by the refusal (0: none)")?;
+        write!(f, "{:8}", "")?;
+        for refusal in [0, 2, 3, 4, 5, 6, 7, 8, 9] {
+            write!(f, "{refusal:>10}")?;
+        }
+        writeln!(f)?;
+        for (operation, name) in OPERATIONS {
+            write!(f, "{name:8}")?;
+            for refusal in [0, 2, 3, 4, 5, 6, 7, 8, 9] {
+                write!(f, "{:>10}", self.calls[operation as usize][refusal])?;
+            }
+            writeln!(f)?;
+        }
+        for (name, count) in &self.counts {
+            writeln!(f, "{count:>10}  {name}")?;
+        }
+        let all = self.failing.len();
+        writeln!(f, "{all:>10}  different failing rows")?;
+        let seen = self.failing.iter().filter(|row| row.0 == 55).count();
+        write!(f, "{seen:>10}  of them at length 55, which has 32832 rows")
+    }
+}

@@ -1,0 +1,87 @@
+//! A host of the C library: the four functions of `include/sm3rows.h` and
+//! OpenSSL's SM3, on slices. All unsafe code of the comparison is here.
+
+pub mod openssl;
+
+use std::ptr;
+
+/// As `include/sm3rows.h` declares them.
+mod c {
+    extern "C" {
+        pub fn sm3rows_digest(
+            record: *const u8,
+            record_len: usize,
+            out: *mut u8,
+            out_len: usize,
+        ) -> u64;
+        pub fn sm3rows_row(length: u64, row: u64, out: *mut u8, out_len: usize) -> u64;
+        pub fn sm3rows_produce(
+            record: *const u8,
+            record_len: usize,
+            out: *mut u8,
+            out_len: usize,
+        ) -> u64;
+        pub fn sm3rows_check(
+            length: u64,
+            digest: *const u8,
+            digest_len: usize,
+            assignment: *const u8,
+            assignment_len: usize,
+        ) -> u64;
+    }
+}
+
+/// What the host passes as the address of an empty slice: "empty may be
+/// null", and need not be.
+#[derive(Clone, Copy, Debug, PartialEq, Eq)]
+pub enum Empty {
+    Null,
+    Address,
+}
+
+impl Empty {
+    fn of(self, bytes: &[u8]) -> *const u8 {
+        match self {
+            Empty::Null if bytes.is_empty() => ptr::null(),
+            _ => bytes.as_ptr(),
+        }
+    }
+
+    fn of_mut(self, bytes: &mut [u8]) -> *mut u8 {
+        match self {
+            Empty::Null if bytes.is_empty() => ptr::null_mut(),
+            _ => bytes.as_mut_ptr(),
+        }
+    }
+}
+
+// Each call lends slices that live through it and do not overlap, which the
+// borrows of the arguments see to.
+
+pub fn digest(empty: Empty, record: &[u8], out: &mut [u8]) -> u64 {
+    let (from, to) = (empty.of(record), empty.of_mut(out));
+    unsafe { c::sm3rows_digest(from, record.len(), to, out.len()) }
+}
+
+pub fn row(empty: Empty, length: u64, row: u64, out: &mut [u8]) -> u64 {
+    unsafe { c::sm3rows_row(length, row, empty.of_mut(out), out.len()) }
+}
+
+pub fn produce(empty: Empty, record: &[u8], out: &mut [u8]) -> u64 {
+    let (from, to) = (empty.of(record), empty.of_mut(out));
+    unsafe { c::sm3rows_produce(from, record.len(), to, out.len()) }
+}
+
+pub fn check(empty: Empty, length: u64, digest: &[u8], assignment: &[u8]) -> u64 {
+    let (held, read) = (empty.of(digest), empty.of(assignment));
+    unsafe { c::sm3rows_check(length, held, digest.len(), read, assignment.len()) }
+}
+
+/// Gives memory that was freed back to the system, so that memory taken
+/// later shows in the size of the process.
+pub fn give_back_free_memory() {
+    extern "C" {
+        fn malloc_trim(pad: usize) -> i32;
+    }
+    unsafe { malloc_trim(0) };
+}

@@ -1,0 +1,88 @@
+//! The check of an assignment against a digest: refusals 2, 5, 6, 7, 8, 9,
+//! in this order, straight over the rows.
+
+use crate::field;
+use crate::forms::{Row, RowNumber, RowTable, Term};
+use crate::length::Length;
+use crate::refusal::Refusal;
+use crate::rows;
+
+/// Every entry of an assignment, read modulo p.
+fn read_entries(assignment: &[u8]) -> Vec<u64> {
+    let entry = |eight: &[u8]| field::read_entry(eight.try_into().expect("eight bytes"));
+    assignment.chunks_exact(8).map(entry).collect()
+}
+
+/// Bit `number` of a digest, "the highest bit of a byte first".
+fn digest_bit(digest: &[u8], number: usize) -> u64 {
+    u64::from(digest[number / 8] >> (7 - number % 8) & 1)
+}
+
+/// The value of a weighted sum of wires.
+fn evaluate(sum: &[Term], entries: &[u64]) -> u64 {
+    sum.iter().fold(0, |total, term| {
+        let product = field::multiply(term.coefficient, entries[term.wire.0 as usize]);
+        field::add(total, product)
+    })
+}
+
+/// "A row is satisfied when A × B = C modulo p."
+pub fn satisfied(row: Row<'_>, entries: &[u64]) -> bool {
+    let [a, b, c] = [row.a, row.b, row.c].map(|sum| evaluate(sum, entries));
+    field::multiply(a, b) == c
+}
+
+/// The lowest row that is not satisfied, if there is one.
+fn lowest_unsatisfied(table: &RowTable, entries: &[u64]) -> Option<RowNumber> {
+    let mut rows = table.iter();
+    rows.find(|&(_, row)| !satisfied(row, entries))
+        .map(|(number, _)| number)
+}
+
+/// Refusals 5 and 6: the two byte lengths.
+fn check_sizes(length: Length, assignment: &[u8], digest: &[u8]) -> Result<(), Refusal> {
+    if digest.len() != 32 {
+        return Err(Refusal::DigestBytes);
+    }
+    if assignment.len() != length.assignment_bytes() {
+        return Err(Refusal::AssignmentBytes);
+    }
+    Ok(())
+}
+
+/// Refusals 7 and 8: wire 0, then "Wires 1 to 256: digest".
+fn check_digest_wires(entries: &[u64], digest: &[u8]) -> Result<(), Refusal> {
+    if entries[0] != 1 {
+        return Err(Refusal::WireZero);
+    }
+    if (0..256).any(|number| entries[1 + number] != digest_bit(digest, number)) {
+        return Err(Refusal::DigestWire);
+    }
+    Ok(())
+}
+
+/// Refusals 5 to 9 for a length in range, with the rows of that length at
+/// hand. It saves time where many assignments of one length are judged.
+pub fn check_with(
+    table: &RowTable,
+    length: Length,
+    assignment: &[u8],
+    digest: &[u8],
+) -> Result<(), Refusal> {
+    check_sizes(length, assignment, digest)?;
+    let entries = read_entries(assignment);
+    check_digest_wires(&entries, digest)?;
+    match lowest_unsatisfied(table, &entries) {
+        Some(number) => Err(Refusal::Unsatisfied(number)),
+        None => Ok(()),
+    }
+}
+
+/// The whole check: `Ok` when the assignment is accepted for the length
+/// against the digest.
+pub fn check(length: u64, assignment: &[u8], digest: &[u8]) -> Result<(), Refusal> {
+    let length = Length::new(length)?;
+    // Sizes first, so that a wrong size is refused before any row is built.
+    check_sizes(length, assignment, digest)?;
+    check_with(&rows::rows(length), length, assignment, digest)
+}

@@ -1,0 +1,49 @@
+//! Record lengths in range, and what follows from a length by counting.
+
+use crate::refusal::Refusal;
+
+/// "A length is in range from 0 to 1,015."
+pub const LONGEST: u64 = 1015;
+
+/// A record length that is known to be in range.
+#[derive(Clone, Copy, Debug, PartialEq, Eq)]
+pub struct Length(usize);
+
+impl Length {
+    /// Refusal 2: "The record length is above 1,015."
+    pub fn new(bytes: u64) -> Result<Length, Refusal> {
+        if bytes > LONGEST {
+            return Err(Refusal::Length);
+        }
+        Ok(Length(bytes as usize))
+    }
+
+    /// The length of a lent record, refused in the same way.
+    pub fn of(record: &[u8]) -> Result<Length, Refusal> {
+        Length::new(record.len() as u64)
+    }
+
+    pub fn bytes(self) -> usize {
+        self.0
+    }
+
+    /// "Blocks n = floor((L + 8) / 64) + 1."
+    pub fn blocks(self) -> usize {
+        (self.0 + 8) / 64 + 1
+    }
+
+    /// "Wires in all: 513 + 22,528 × n."
+    pub fn wires(self) -> usize {
+        513 + 22_528 * self.blocks()
+    }
+
+    /// "A block has 32,320 rows; in all 512 + 32,320 × n."
+    pub fn rows(self) -> usize {
+        512 + 32_320 * self.blocks()
+    }
+
+    /// "The right byte lengths are 8 × wires for an assignment."
+    pub fn assignment_bytes(self) -> usize {
+        8 * self.wires()
+    }
+}

@@ -1,0 +1,28 @@
+//! An outside judge for the paper "SM3 record rows over the prime 2^61 - 1".
+//!
+//! Everything here was written from that paper alone. Sentences of the paper
+//! are quoted in the comments beside the code that follows them.
+//!
+//! * `sm3`: the hash, and every word it computes on the way ("SM3 as used").
+//! * `length`: lengths in range and the counts of blocks, wires and rows.
+//! * `layout`: the wires of a record, from the record alone ("Wires",
+//!   "The words of demand 3").
+//! * `forms`: the row forms ("Rows", its list of equations).
+//! * `rows`: all rows of a length, by walking the blocks in wire order.
+//! * `check`: the check of an assignment against a digest.
+//! * `operations`: digest, row and produce on lent buffers.
+//! * `listing`: the input line and the output of the program `rows`.
+//! * `refusal`: the nine refusals. `field`: numbers modulo p.
+
+#![forbid(unsafe_code)]
+
+pub mod check;
+pub mod field;
+pub mod forms;
+pub mod layout;
+pub mod length;
+pub mod listing;
+pub mod operations;
+pub mod refusal;
+pub mod rows;
+pub mod sm3;

@@ -1,0 +1,62 @@
+//! `judge rows`: reads the line of the program `rows` on standard input and
+//! prints what that program must print.
+//! `judge digest`: the digest of the bytes on standard input, in hexadecimal.
+//! `judge counts L`: blocks, wires and rows of a record length.
+
+use std::io::{self, Read, Write};
+use std::process::ExitCode;
+
+use judge::length::Length;
+use judge::listing::{listing, refused};
+use judge::operations;
+use judge::refusal::Refusal;
+
+const USAGE: &str = "usage: judge rows | judge digest | judge counts L";
+
+fn standard_input() -> io::Result<Vec<u8>> {
+    let mut bytes = Vec::new();
+    io::stdin().lock().read_to_end(&mut bytes)?;
+    Ok(bytes)
+}
+
+fn digest_text(record: &[u8]) -> Result<String, Refusal> {
+    let mut digest = [0; 32];
+    operations::digest(record, &mut digest)?;
+    let hex: String = digest.iter().map(|byte| format!("{byte:02x}")).collect();
+    Ok(hex + "\n")
+}
+
+fn counts_text(length: u64) -> Result<String, Refusal> {
+    let length = Length::new(length)?;
+    let (blocks, wires, rows) = (length.blocks(), length.wires(), length.rows());
+    Ok(format!("blocks,{blocks}\nwires,{wires}\nrows,{rows}\n"))
+}
+
+/// The text to print, or `None` when the arguments are not understood.
+fn answer(arguments: &[String]) -> io::Result<Option<String>> {
+    let words: Vec<&str> = arguments.iter().map(String::as_str).collect();
+    let text = match words[..] {
+        ["rows"] => listing(&standard_input()?),
+        ["digest"] => digest_text(&standard_input()?).unwrap_or_else(refused),
+        ["counts", length] => match length.parse() {
+            Ok(length) => counts_text(length).unwrap_or_else(refused),
+            Err(_) => return Ok(None),
+        },
+        _ => return Ok(None),
+    };
+    Ok(Some(text))
+}
+
+fn main() -> io::Result<ExitCode> {
+    let arguments: Vec<String> = std::env::args().skip(1).collect();
+    match answer(&arguments)? {
+        Some(text) => {
+            io::stdout().lock().write_all(text.as_bytes())?;
+            Ok(ExitCode::SUCCESS)
+        }
+        None => {
+            eprintln!("{USAGE}");
+            Ok(ExitCode::from(2))
+        }
+    }
+}

@@ -1,0 +1,140 @@
+//! The program `rows`: its line and what it prints.
+
+mod support;
+
+use std::io::Write;
+use std::process::{Command, Stdio};
+
+use judge::listing::listing;
+use judge::rows;
+use support::length;
+
+const HEADER: &str = "row,part,wire,coefficient\n";
+
+#[test]
+fn the_whole_example() {
+    let expected = "row,part,wire,coefficient\n\
+                    0,A,257,1\n0,B,0,1\n\
+                    1,A,258,1\n1,B,0,1\n1,C,0,1\n";
+    assert_eq!(listing(b"0,0,2\n"), expected);
+}
+
+#[test]
+fn lines_that_are_refusal_1() {
+    let lines: [&[u8]; 32] = [
+        b"",
+        b"\n",
+        b"0,0,2",
+        b"0,0,2\n\n",
+        b"0,0,2\r\n",
+        b"0,0,2\n0",
+        b"0,0,2 \n",
+        b" 0,0,2\n",
+        b"0, 0,2\n",
+        b"+0,0,2\n",
+        b"-0,0,2\n",
+        b"00,0,2\n",
+        b"0,00,2\n",
+        b"0,0,02\n",
+        b"0,0\n",
+        b"0,0,2,\n",
+        b",0,0,2\n",
+        b"0,0,2,0\n",
+        b"0,,2\n",
+        b",,\n",
+        b"0;0;2\n",
+        b"0,0,2\0\n",
+        b"1234567890,0,0\n",
+        b"0,1234567890,0\n",
+        b"0,0,1234567890\n",
+        b"0,0,1e1\n",
+        b"0,0,0x1\n",
+        b"0,0,2\0",
+        b"\n0,0,2\n",
+        b"0,0\n,2\n",
+        b"0,0,\xb2\n",
+        b"01,0,2\n",
+    ];
+    for line in lines {
+        assert_eq!(listing(line), "refused,1\n", "{}", line.escape_ascii());
+    }
+}
+
+#[test]
+fn refusals_2_and_3() {
+    for line in [
+        "1016,0,0\n",
+        "999999999,999999999,999999999\n",
+        "1016,999999999,0\n",
+    ] {
+        assert_eq!(listing(line.as_bytes()), "refused,2\n", "{line}");
+    }
+    for line in [
+        "0,32832,1\n",
+        "0,32831,2\n",
+        "0,0,32833\n",
+        "0,32833,0\n",
+        "1015,517632,1\n",
+        "1015,999999999,999999999\n",
+    ] {
+        assert_eq!(listing(line.as_bytes()), "refused,3\n", "{line}");
+    }
+}
+
+#[test]
+fn how_many_may_be_0() {
+    for line in ["0,0,0\n", "0,32832,0\n", "1015,517632,0\n", "1015,5,0\n"] {
+        assert_eq!(listing(line.as_bytes()), HEADER, "{line}");
+    }
+}
+
+#[test]
+fn the_last_row_of_length_0() {
+    let expected = "32831,A,256,1\n32831,A,23040,2305843009213693950\n32831,B,0,1\n";
+    assert_eq!(listing(b"0,32831,1\n"), format!("{HEADER}{expected}"));
+}
+
+#[test]
+fn a_whole_listing_reads_back_as_the_rows() {
+    let table = rows::rows(length(1));
+    let text = listing(b"1,0,32832\n");
+    assert!(text.ends_with('\n'));
+    let mut lines = text.lines();
+    assert_eq!(lines.next(), Some(HEADER.trim_end()));
+    for (number, row) in table.iter() {
+        for (part, sum) in [("A", row.a), ("B", row.b), ("C", row.c)] {
+            for term in sum {
+                let fields: Vec<&str> = lines.next().unwrap().split(',').collect();
+                let wire = term.wire.0.to_string();
+                let coefficient = term.coefficient.to_string();
+                assert_eq!(fields, [&number.0.to_string(), part, &wire, &coefficient]);
+            }
+        }
+    }
+    assert_eq!(lines.next(), None);
+}
+
+fn run(arguments: &[&str], input: &[u8]) -> String {
+    let mut child = Command::new(env!("CARGO_BIN_EXE_judge"))
+        .args(arguments)
+        .stdin(Stdio::piped())
+        .stdout(Stdio::piped())
+        .spawn()
+        .unwrap();
+    child.stdin.take().unwrap().write_all(input).unwrap();
+    String::from_utf8(child.wait_with_output().unwrap().stdout).unwrap()
+}
+
+#[test]
+fn the_binary() {
+    assert_eq!(run(&["rows"], b"0,0,2\n"), listing(b"0,0,2\n"));
+    assert_eq!(run(&["rows"], b"0,0,2"), "refused,1\n");
+    let abc = "66c7f0f462eeedd9d1f2d46bdc10e4e24167c4875cf2f7a2297da02b8f4ba8e0\n";
+    assert_eq!(run(&["digest"], b"abc"), abc);
+    assert_eq!(run(&["digest"], &[0; 1016]), "refused,2\n");
+    assert_eq!(
+        run(&["counts", "0"], b""),
+        "blocks,1\nwires,23041\nrows,32832\n"
+    );
+    assert_eq!(run(&["counts", "1016"], b""), "refused,2\n");
+}

@@ -1,0 +1,77 @@
+//! Helpers of the self checks: records, and an evaluation of rows that goes
+//! another way than the check's own.
+#![allow(dead_code)]
+
+use judge::field::P;
+use judge::forms::{Row, RowNumber, RowTable, Term};
+use judge::length::Length;
+
+/// The lengths at which every row is evaluated.
+pub const LENGTHS: [u64; 9] = [0, 1, 55, 56, 63, 64, 119, 120, 1015];
+
+pub fn length(bytes: u64) -> Length {
+    Length::new(bytes).expect("a length in range")
+}
+
+/// Repeatable bytes without a pattern (a linear congruence's upper bits).
+pub fn record(bytes: u64, seed: u64) -> Vec<u8> {
+    let mut state = seed.wrapping_add(1 + bytes);
+    let mut next = || {
+        state = state
+            .wrapping_mul(6364136223846793005)
+            .wrapping_add(1442695040888963407);
+        (state >> 56) as u8
+    };
+    (0..bytes).map(|_| next()).collect()
+}
+
+pub fn entry(assignment: &[u8], wire: usize) -> u64 {
+    u64::from_le_bytes(assignment[8 * wire..8 * wire + 8].try_into().unwrap())
+}
+
+pub fn set_entry(assignment: &mut [u8], wire: usize, value: u64) {
+    assignment[8 * wire..8 * wire + 8].copy_from_slice(&value.to_le_bytes());
+}
+
+/// A sum in whole numbers: a coefficient above p / 2 counts as negative.
+fn whole_sum(sum: &[Term], entries: impl Fn(usize) -> u64) -> i128 {
+    let signed = |c: u64| {
+        if c > P / 2 {
+            i128::from(c) - i128::from(P)
+        } else {
+            i128::from(c)
+        }
+    };
+    let value = |t: &Term| signed(t.coefficient) * i128::from(entries(t.wire.0 as usize) % P);
+    sum.iter().map(value).sum()
+}
+
+/// Whether A × B - C is a multiple of p.
+pub fn holds(row: Row<'_>, entries: impl Fn(usize) -> u64 + Copy) -> bool {
+    let p = i128::from(P);
+    let [a, b, c] = [row.a, row.b, row.c].map(|sum| whole_sum(sum, entries).rem_euclid(p));
+    (a * b - c) % p == 0
+}
+
+/// Whether a row has the wire in one of its sums.
+fn has_wire(row: Row<'_>, wire: u32) -> bool {
+    [row.a, row.b, row.c]
+        .iter()
+        .any(|sum| sum.iter().any(|term| term.wire.0 == wire))
+}
+
+/// The lowest row, among those with that wire, that does not hold. Where an
+/// assignment was right before that wire changed, it is the lowest of all.
+pub fn lowest_with_wire(table: &RowTable, assignment: &[u8], wire: u32) -> Option<RowNumber> {
+    let entries = |wire: usize| entry(assignment, wire);
+    let mut rows = table.iter().filter(|&(_, row)| has_wire(row, wire));
+    rows.find(|&(_, row)| !holds(row, entries))
+        .map(|(number, _)| number)
+}
+
+/// A row as three lists of (wire, coefficient).
+pub type Plain = [Vec<(u32, u64)>; 3];
+
+pub fn plain(row: Row<'_>) -> Plain {
+    [row.a, row.b, row.c].map(|sum| sum.iter().map(|t| (t.wire.0, t.coefficient)).collect())
+}
