@@ -1,0 +1,132 @@
+-- Refusal 1. A line is read exactly if it is the writing of three numbers below 1,000,000,000: each of its fields is,
+-- and nothing stands after the third.
+use mathlib.Core.List.{List, [], _∷_, _++_, append-assoc, append-nil}
+use mathlib.Core.Logic.{_↔_}
+use mathlib.Core.Path.{_≡_, refl, sym, ap, _∙_}
+use Prim.Native.Nat.{ℕ, _+_, _≤_, _<_}
+use native.Mathlib.Omega.{arith}
+use lib.ListN.{length, drop, length-append}
+use lib.Seq.{drop-append-seam}
+use Rattle.listing.specs.Decimal.{decimal, field}
+use Rattle.listing.specs.Line.{Right, after, ended, fieldOf, line, parseOf}
+use Rattle.listing.specs.Text.{comma, lineFeed}
+use Rattle.listing.specs.declared.line.Field.{Field}
+use Rattle.listing.specs.declared.line.Field.the-variants.{Number, Wrong}
+use Rattle.listing.specs.declared.line.Request.{Request}
+use Rattle.listing.specs.declared.line.Request.the-variants.{Numbers, BadLine}
+use Rattle.listing.proofs.Digits.{length-decimal}
+use Rattle.listing.proofs.FieldRight.{Begins, field-begins, field-read, field-rest}
+
+-- a right line, field by field
+fields : ℕ → ℕ → ℕ → List ℕ
+fields l f h = field l comma ++ (field f comma ++ (field h lineFeed ++ []))
+
+line-fields : (l f h : ℕ) → line l f h ≡ fields l f h
+unfolding line fields
+line-fields l f h = simp (append-assoc, append-nil)
+
+-- reading goes on after a field
+goes-on :
+    (stop : ℕ)
+    → stop < 48
+    → (v : ℕ)
+    → v < 1000000000
+    → (t : List ℕ) (next : ℕ → List ℕ → Request)
+    → after (fieldOf stop (field v stop ++ t)) (field v stop ++ t) next ≡ next v t
+goes-on stop apart v below t next =
+    ap (λ (f : Field). after f (field v stop ++ t) next) (field-read stop apart v below t)
+    ∙ ap (next v) (drop-append-seam (field v stop) t)
+
+read-whole : (l f h : ℕ) → l < 1000000000 → f < 1000000000 → h < 1000000000 → parseOf (fields l f h) ≡ Numbers l f h
+unfolding parseOf fields
+read-whole l f h l-below f-below h-below =
+    goes-on comma (omega arith) l l-below (field f comma ++ (field h lineFeed ++ [])) _
+    ∙ goes-on comma (omega arith) f f-below (field h lineFeed ++ []) _
+    ∙ goes-on lineFeed (omega arith) h h-below [] _
+
+never : {l f h : ℕ} → BadLine ≡ Numbers l f h → ⊥
+never e = let z : _≡_ {A = ℕ} 0 1 = cc in omega arith
+
+-- what was read before the rest t
+record Past (stop : ℕ) (s : List ℕ) (next : ℕ → List ℕ → Request) (r : Request) : Type 0 where
+  v : ℕ
+  t : List ℕ
+  below : v < 1000000000
+  is : s ≡ field v stop ++ t
+  on : next v t ≡ r
+
+past :
+    (stop : ℕ) (s : List ℕ) (next : ℕ → List ℕ → Request) (l f h : ℕ)
+    → after (fieldOf stop s) s next ≡ Numbers l f h
+    → Past stop s next (Numbers l f h)
+past stop s next l f h e = by (fieldOf stop s) refl e
+  where
+    by : (F : Field) → fieldOf stop s ≡ F → after F s next ≡ Numbers l f h → Past stop s next (Numbers l f h)
+    by (Number v m) read e =
+        let begins = field-begins stop s v m read in
+        record {
+          v = v;
+          t = begins .rest;
+          below = begins .below;
+          is = begins .is;
+          on = ap (next v) (sym (field-rest begins)) ∙ e;
+        }
+    by Wrong read e = absurd (never e)
+
+-- nothing stands after the third field
+all-read :
+    (s t₁ t₂ t₃ : List ℕ) (a b c l f h : ℕ)
+    → s ≡ field a comma ++ t₁
+    → t₁ ≡ field b comma ++ t₂
+    → t₂ ≡ field c lineFeed ++ t₃
+    → (a < 1000000000) × (b < 1000000000) × (c < 1000000000)
+    → ended t₃ (Numbers a b c) ≡ Numbers l f h
+    → Right s l f h
+unfolding fields
+all-read s t₁ t₂ [] a b c l f h is₁ is₂ is₃ below e =
+    let a-l : a ≡ l = cc in
+    let b-f : b ≡ f = cc in
+    let c-h : c ≡ h = cc in
+    let whole : s ≡ fields a b c = cc in
+    let same : line a b c ≡ line l f h = cc in
+    (rw a-l at (below .0), rw b-f at (below .1), rw c-h at (below .2), whole ∙ sym (line-fields a b c) ∙ same)
+all-read s t₁ t₂ (x ∷ t₃) a b c l f h is₁ is₂ is₃ below e = absurd (never e)
+
+pub parse-right : (s : List ℕ) (l f h : ℕ) → (parseOf s ≡ Numbers l f h) ↔ Right s l f h
+unfolding parseOf
+parse-right s l f h = (right, λ given. ap parseOf (given .3 ∙ line-fields l f h) ∙ read-whole l f h (given .0) (given .1) (given .2))
+  where
+    right : parseOf s ≡ Numbers l f h → Right s l f h
+    right e =
+        let first = past comma s _ l f h e in
+        let second = past comma (first .t) _ l f h (first .on) in
+        let third = past lineFeed (second .t) _ l f h (second .on) in
+        all-read s (first .t) (second .t) (third .t) (first .v) (second .v) (third .v) l f h
+        (first .is) (second .is) (third .is) (first .below, second .below, third .below) (third .on)
+
+-- .. and is refused otherwise
+pub parse-wrong : (s : List ℕ) → (parseOf s ≡ BadLine) ↔ ((l f h : ℕ) → Right s l f h → ⊥)
+parse-wrong s = (λ bad l f h right. never (sym bad ∙ parse-right s l f h .1 right), by (parseOf s) refl)
+  where
+    by : (r : Request) → parseOf s ≡ r → ((l f h : ℕ) → Right s l f h → ⊥) → parseOf s ≡ BadLine
+    by (Numbers l f h) read none = absurd (none l f h (parse-right s l f h .0 read))
+    by BadLine read none = read
+
+-- A right line has at most 30 bytes, so a buffer that holds one more is long enough to tell.
+length-field : (v stop : ℕ) → v < 1000000000 → length (field v stop) ≤ 10
+unfolding field
+length-field v stop below = omega (arith, length-decimal 8 v below, length-append (decimal v) (stop ∷ []))
+
+pub long-wrong : (s : List ℕ) → 30 < length s → parseOf s ≡ BadLine
+unfolding line
+long-wrong s long =
+    parse-wrong s .1 λ l f h right.
+    omega (
+      arith,
+      ap length (right .3),
+      length-append (field l comma ++ field f comma) (field h lineFeed),
+      length-append (field l comma) (field f comma),
+      length-field l comma (right .0),
+      length-field f comma (right .1),
+      length-field h lineFeed (right .2),
+    )

@@ -1,0 +1,68 @@
+-- The parts go one after the other; a row has at most 163 terms, each of a line of at most 65 bytes.
+use mathlib.Core.Path.{_≡_}
+use Prim.Native.Nat.{_+_}
+use native.Mathlib.Omega.{arith}
+use borrow.Author.Needs.{needs}
+use lib.ListN.{length}
+use Rattle.circuit.specs.Circuit.{rowAt}
+use Rattle.listing.specs.Listing.{rowLines}
+use Rattle.listing.proofs.HeldLines.{held-A, held-B, held-C}
+use Rattle.listing.proofs.Written.{put-then}
+use Rattle.listing.proofs.term.put_row.Statement.{statement}
+use Rattle.listing.proofs.term.put_row.Tie as tie
+
+row-terms-requires : tie.Need-row-terms-requires
+row-terms-requires c κs = search needs
+
+put-part-requires : tie.Need-put-part-requires
+put-part-requires c κs = search needs
+
+put-part-requires-2 : tie.Need-put-part-requires-2
+put-part-requires-2 c κs = search needs
+
+add-put-part : tie.Need-add-put-part
+add-put-part c = search needs
+
+put-part-requires-3 : tie.Need-put-part-requires-3
+put-part-requires-3 c κs = search needs
+
+same-length : tie.Need-same-length
+same-length c = search needs
+
+same-length-2 : tie.Need-same-length-2
+same-length-2 c = search needs
+
+returns : tie.Need-returns
+unfolding rowLines
+returns c =
+    let third = c .before .before in
+    let second = third .before .before .before .before .before .before in
+    let first = second .before .before .before .before .before in
+    let filled = first .before .before .before .before .before in
+    let args = filled .before .before .before .before .args in
+    let held = filled .row-terms .last .1 .1 .0 in
+    let counts = filled .row-terms .result in
+    let is = filled .row-terms .ensures in
+    let r = rowAt (args .bits) (args .row .0) in
+    let n = counts .a + counts .b + counts .c in
+    let place : counts .a + counts .b ≡ length (r .A) + length (r .B) = omega (arith, is .a, is .b) in (
+      put-then
+          (put-then
+          (rw (held-A r held n (is .front) (args .row .0) 65 (counts .a) (is .a)) at (first .put-part .ensures .0))
+          (rw (held-B r held n (is .front) (args .row .0) 66 (counts .a) (counts .b) (is .a) (is .b)) at (second .put-part2 .ensures .0)))
+          (rw (held-C r held n (is .front) (args .row .0) 67 (counts .a + counts .b) (counts .c) place (is .c)) at (third .put-part3 .ensures .0)),
+      omega (arith, third .put-part3 .ensures .1, second .put-part2 .ensures .1, first .put-part .ensures .1, is .few),
+    )
+
+pub put-row-spec : {M : Type 1} → statement M
+put-row-spec =
+    tie.close
+    (tie.spec
+    row-terms-requires
+    put-part-requires
+    put-part-requires-2
+    add-put-part
+    put-part-requires-3
+    same-length
+    same-length-2
+    returns)

@@ -1,0 +1,22 @@
+-- Numbers in decimal (document 01, "What `rows` prints": "all numbers decimal").
+use mathlib.Core.Bool.{cond}
+use mathlib.Core.List.{List, [], _∷_, _++_}
+use Prim.Native.Nat.{ℕ, zero, suc, _+_, _/_, _%_}
+use lib.Dec.{ltb}
+
+-- the digit d in ASCII
+abbrev pub digit : ℕ → ℕ
+digit d = 48 + d
+
+-- the last k digits of x, or all of them where they are fewer, without leading zeros
+unfoldable pub digits : ℕ → ℕ → List ℕ
+digits zero x = []
+digits (suc k) x = let high = digits k (x / 10) in cond (ltb x 10) (digit x ∷ []) (high ++ (digit (x % 10) ∷ []))
+
+-- the digits of x, the highest first
+unfoldable pub decimal : ℕ → List ℕ
+decimal x = digits (suc x) x
+
+-- x and the byte after it
+unfoldable pub field : ℕ → ℕ → List ℕ
+field x stop = decimal x ++ (stop ∷ [])

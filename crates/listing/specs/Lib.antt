@@ -1,0 +1,7 @@
+pub mod Decimal
+pub mod Line
+pub mod Listing
+pub mod Put
+pub mod Request
+pub mod Steps
+pub mod Text

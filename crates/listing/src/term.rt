@@ -1,0 +1,62 @@
+// The lines of a row's terms: `row,part,wire,coefficient`.
+ghost use Prim.Native.Nat.{_+_, _*_, _<_, _≤_};
+ghost use lib.ListN.{length};
+ghost use Rattle.circuit.specs.Places.{rowCount};
+ghost use Rattle.listing.specs.Listing.{heldLines, rowLines, termLine};
+ghost use Rattle.listing.specs.Put.{Put};
+use crate::decimal::put_field;
+use circuit::place::RowNumber;
+use circuit::row::row_terms;
+use circuit::wire::WireNumber;
+
+// The line of a term.
+pub fn put_term_line(
+    out: &mut [u8],
+    at: usize,
+    row: RowNumber,
+    part: u8,
+    wire: WireNumber,
+    coefficient: u64,
+) -> usize
+    requires { ⌜ at + 65 ≤ length (now out) ⌝ }
+    ensures { λ r. ⌜ Put (now (out .entry)) at (termLine (row .0) part (wire .0) coefficient) (now (out .exit)) r × (r ≤ at + 65) ⌝ }
+{
+    let a = put_field(out, at, row.0, b',');
+    out[a] = part;
+    out[a + 1] = b',';
+    let b = put_field(out, a + 2, wire.0, b',');
+    put_field(out, b, coefficient, b'\n')
+}
+
+// The lines of a part of so many terms, which `terms` holds from its term `from` on.
+fn put_part(
+    out: &mut [u8],
+    at: usize,
+    row: RowNumber,
+    part: u8,
+    terms: &[u64],
+    from: usize,
+    many: usize,
+) -> usize
+    requires { ⌜ (at + 65 * many ≤ length (now out)) × (2 * (from + many) ≤ length (now terms)) ⌝ }
+    ensures { λ r. ⌜ Put (now (out .entry)) at (heldLines (row .0) part (now (terms .entry)) from many) (now (out .exit)) r × (r ≤ at + 65 * many) ⌝ }
+{
+    let mut end = at;
+    for i in 0..many {
+        let k = 2 * (from + i);
+        let wire = WireNumber(terms[k]);
+        end = put_term_line(out, end, row, part, wire, terms[k + 1]);
+    }
+    end
+}
+
+// The lines of a row of a record of so many bits. `terms` is room for its terms.
+pub fn put_row(out: &mut [u8], at: usize, bits: u64, row: RowNumber, terms: &mut [u64]) -> usize
+    requires { ⌜ (at + 10595 ≤ length (now out)) × (bits ≤ 8127) × (row .0 < rowCount bits) × (326 ≤ length (now terms)) ⌝ }
+    ensures { λ r. ⌜ Put (now (out .entry)) at (rowLines bits (row .0)) (now (out .exit)) r × (r ≤ at + 10595) ⌝ }
+{
+    let counts = row_terms(bits, row, terms);
+    let a = put_part(out, at, row, b'A', terms, 0, counts.a);
+    let b = put_part(out, a, row, b'B', terms, counts.a, counts.b);
+    put_part(out, b, row, b'C', terms, counts.a + counts.b, counts.c)
+}
