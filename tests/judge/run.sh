@@ -17,7 +17,7 @@ export CARGO_TARGET_DIR="$root/target/judge"
 
 # libcrypto's development files.
 echo 'int main(void) { return 0; }' | ${CC:-cc} -x c - -lcrypto -o /dev/null 2> /dev/null ||
-    apt-get install -y libssl-dev > /dev/null
+    { apt-get update && apt-get install -y libssl-dev; } > /dev/null
 
 cargo build --quiet --release -j1 --manifest-path "$root/tests/judge/Cargo.toml" -p compare
 
