@@ -8,16 +8,13 @@ ghost use Rattle.circuit.specs.Circuit.{rowAt};
 ghost use Rattle.circuit.specs.Layout.{wireCount};
 ghost use Rattle.circuit.specs.Places.{rowCount};
 use crate::check::CheckAnswer;
-use crate::entry::raw;
-use crate::sums::Sums;
-use crate::sums::plus;
-use crate::sums::times;
+use crate::sums::part_product;
+use crate::sums::part_value;
 use circuit::place::RowNumber;
+use circuit::place::next_place;
+use circuit::place::place_of;
 use circuit::place::row_count;
-use circuit::step_form::form_at;
-use circuit::terms::fill;
-use circuit::wire::WireNumber;
-use field::product;
+use circuit::row::place_terms;
 
 // The lowest row of a record of so many bits that is not satisfied, if there is one.
 pub fn lowest_unsatisfied(bits: u64, assignment: &[u8]) -> CheckAnswer
@@ -26,22 +23,23 @@ pub fn lowest_unsatisfied(bits: u64, assignment: &[u8]) -> CheckAnswer
 {
     let count = row_count(bits);
     let mut terms = [0u64; 326];
+    let mut place = place_of(bits, RowNumber(0));
     let mut k: u64 = 0;
     'rows: loop {
-        if k == count {
-            break 'rows CheckAnswer::Accepted;
-        }
-        let counts = fill(form_at(bits, RowNumber(k)), &mut terms);
-        let a = counts.a;
-        let ab = a + counts.b;
-        let mut sums = Sums { a: 0, b: 0, c: 0 };
-        for t in 0..ab + counts.c {
-            let x = raw(assignment, WireNumber(terms[2 * t]));
-            sums = plus(sums, t, a, ab, times(terms[2 * t + 1], x));
-        }
-        if product(sums.a, sums.b) != sums.c {
+        let step = place.step;
+        let counts = place_terms(bits, place.block, step, place.index, place.line, &mut terms);
+        let b = counts.a;
+        let c = b + counts.b;
+        let value_a = part_value(assignment, &terms, 0, b);
+        let value_b = part_value(assignment, &terms, b, c);
+        let value_c = part_value(assignment, &terms, c, c + counts.c);
+        if part_product(value_a, value_b) != value_c {
             break 'rows CheckAnswer::Unsatisfied(RowNumber(k));
         }
+        if k + 1 == count {
+            break 'rows CheckAnswer::Accepted;
+        }
+        place = next_place(bits, place, RowNumber(k));
         k += 1;
     }
 }

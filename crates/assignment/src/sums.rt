@@ -1,54 +1,52 @@
-// The three weighted sums of a row, as residues, term by term.
-ghost use mathlib.Core.Bool.{cond};
+// What the parts of a row come to, as residues.
+ghost use mathlib.Core.List.{List, _++_};
 ghost use mathlib.Core.Path.{_≡_};
-ghost use Prim.Native.Nat.{_+_, _*_, _%_, _<_};
-ghost use lib.Dec.{ltb};
+ghost use Prim.Native.Nat.{ℕ, _+_, _*_, _%_, _<_, _≤_};
+ghost use lib.ListN.{getD, length};
+ghost use Rattle.assignment.specs.Assignment.{entry};
+ghost use Rattle.circuit.specs.Rows.{value};
+ghost use Rattle.circuit.specs.Terms.{flat};
+ghost use Rattle.circuit.specs.declared.form.Term.{Term};
 ghost use Rattle.field.specs.Field.{p};
+use crate::entry::raw;
+use circuit::wire::WireNumber;
+use field::P;
 use field::product;
-use field::reduce;
 use field::sum;
-
-// What A, B and C have come to.
-pub struct Sums {
-    pub a: u64,
-    pub b: u64,
-    pub c: u64,
-}
 
 // k times the number x. Nearly every entry of an honest assignment is 0 or 1, which needs no reduction; whether it is the one
 // or the other is not asked, since the processor could not foresee the answer.
-pub fn times(k: u64, x: u64) -> u64
+fn times(k: u64, x: u64) -> u64
     requires { ⌜ k < p ⌝ }
     ensures { λ r. ⌜ r ≡ (k * x) % p ⌝ }
 {
-    if x < 2 {
-        return k * x;
+    if 1 < x {
+        return product(k, x % P);
     }
-    product(k, reduce(x))
+    k * x
 }
 
-// Adds x, the value of term t, to A, to B from term `a` on or to C from term `ab` on.
-pub fn plus(s: Sums, t: usize, a: usize, ab: usize, x: u64) -> Sums
-    requires { ⌜ (s .a < p) × (s .b < p) × (s .c < p) × (x < p) ⌝ }
-    ensures { λ r. ⌜ r ≡ cond (ltb t a) (record { a = (s .a + x) % p; b = s .b; c = s .c }) (cond (ltb t ab) (record { a = s .a; b = (s .b + x) % p; c = s .c }) (record { a = s .a; b = s .b; c = (s .c + x) % p })) ⌝ }
+// The weighted sum of the terms from `from` to `to`.
+pub fn part_value(assignment: &[u8], terms: &[u64], from: usize, to: usize) -> u64
+    requires { ⌜ (from ≤ to) × (2 * to ≤ length (now terms)) × ((t : ℕ) → t < to → (8 * getD (now terms) (2 * t) 0 + 8 ≤ length (now assignment)) × (getD (now terms) (2 * t + 1) 0 < p)) ⌝ }
+    ensures { λ r. ⌜ (r < p) × ((xs ts : List Term) (rest : List ℕ) → length xs ≡ from → from + length ts ≡ to → now (terms .entry) ≡ flat (xs ++ ts) ++ rest → r ≡ value (entry (now (assignment .entry))) ts % p) ⌝ }
 {
-    if t < a {
-        return Sums {
-            a: sum(s.a, x),
-            b: s.b,
-            c: s.c,
-        };
+    let mut s = 0;
+    for t in from..to {
+        let x = raw(assignment, WireNumber(terms[2 * t]));
+        s = sum(s, times(terms[2 * t + 1], x));
     }
-    if t < ab {
-        return Sums {
-            a: s.a,
-            b: sum(s.b, x),
-            c: s.c,
-        };
+    s
+}
+
+// The product of A and B. In an honest row A is 0, 1 or 2, and one subtraction reduces the product.
+pub fn part_product(a: u64, b: u64) -> u64
+    requires { ⌜ (a < p) × (b < p) ⌝ }
+    ensures { λ r. ⌜ r ≡ (a * b) % p ⌝ }
+{
+    if 2 < a {
+        return product(a, b);
     }
-    Sums {
-        a: s.a,
-        b: s.b,
-        c: sum(s.c, x),
-    }
+    let whole = a * b;
+    if whole < P { whole } else { whole - P }
 }

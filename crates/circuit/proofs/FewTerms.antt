@@ -4,8 +4,7 @@ use mathlib.Core.Bool.{Bool, cond, false, true}
 use mathlib.Core.Path.{_≡_, refl}
 use Prim.Native.Nat.{ℕ, _%_}
 use lib.Dec.{eqb, ltb}
-use Rattle.circuit.specs.Circuit.{choiceOf, digestForm, ffForm, formAt, formOf, ggForm, messageForm, p0Form, p1Form, paired, qForm, resultForm, ss2Form, startForm, summed, tt1Form, tt2Form, uForm, wForm, wPrimeForm, xorOfTwo}
-use Rattle.circuit.specs.Places.{placeAt}
+use Rattle.circuit.specs.Circuit.{choiceOf, digestForm, ffForm, formOf, ggForm, messageForm, p0Form, p1Form, paired, qForm, resultForm, ss2Form, startForm, summed, tt1Form, tt2Form, uForm, wForm, wPrimeForm, xorOfTwo}
 use Rattle.circuit.specs.Terms.{Few}
 use Rattle.circuit.specs.Wires.{StateWires, ggFirst, standing}
 use Rattle.circuit.specs.declared.form.Addends.{Addends}
@@ -46,7 +45,7 @@ few-gg F s j l = by (ltb j 16)
     by true = few-pair XorOfThree (λ x y z r. tt) _ _ _ _ l
     by false = tt
 
-few-of : (n i : ℕ) (s : Step) (j l : ℕ) → Few (formOf n i s j l)
+pub few-of : (n i : ℕ) (s : Step) (j l : ℕ) → Few (formOf n i s j l)
 unfolding digestForm ffForm formOf p0Form p1Form qForm resultForm ss2Form startForm tt1Form tt2Form uForm wForm wPrimeForm xorOfTwo
 few-of n i Start j l = tt
 few-of n i Message j l = few-message n _ _
@@ -63,7 +62,3 @@ few-of n i Tt2 j l = few-sum _ _ _ l refl
 few-of n i P0 j l = few-pair XorOfThree (λ x y z r. tt) _ _ _ _ l
 few-of n i Result j l = tt
 few-of n i Digest j l = tt
-
-pub few : (n k : ℕ) → Few (formAt n k)
-unfolding formAt
-few n k = few-of n (placeAt n k .block) (placeAt n k .step) (placeAt n k .index) (placeAt n k .line)

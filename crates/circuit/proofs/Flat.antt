@@ -19,10 +19,14 @@ unfolding flat
 flat-length [] = refl
 flat-length (t ∷ ts) = omega (arith, flat-length ts)
 
+-- terms go over to the numbers that stand behind
+pub over : (xs ys : List Term) (rest : List ℕ) → flat (xs ++ ys) ++ rest ≡ flat xs ++ (flat ys ++ rest)
+over xs ys rest = ap (λ l. l ++ rest) (flat-append xs ys) ∙ append-assoc (flat xs) (flat ys) rest
+
 module _ (xs : List Term) (rest : List ℕ) where
   split-at-wire : (t : Term) (us : List Term) → flat (xs ++ t ∷ us) ++ rest ≡ flat xs ++ (t .wire .0 ∷ t .coefficient ∷ (flat us ++ rest))
   unfolding flat
-  split-at-wire t us = ap (λ l. l ++ rest) (flat-append xs (t ∷ us)) ∙ append-assoc (flat xs) (flat (t ∷ us)) rest
+  split-at-wire t us = over xs (t ∷ us) rest
 
   -- a term with i before it stands at 2 i and 2 i + 1
   module _ (t : Term) (us : List Term) (i : ℕ) (here : length xs ≡ i) where

@@ -1,9 +1,9 @@
 pub mod All
-pub mod FewTerms
 pub mod Flat
 pub mod FlatAll
 pub mod Forms
 pub mod Nonzero
+pub mod PlaceRange
 pub mod Record
 pub mod Rises
 pub mod Runs
@@ -23,9 +23,10 @@ mod BlockRounds
 mod Carries
 mod Chain
 mod Clear
+mod FewTerms
+mod NextPlace
 mod Order
 mod Parts
-mod PlaceRange
 mod Regroup
 mod RowAnswers
 mod RowApart

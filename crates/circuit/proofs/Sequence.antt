@@ -33,7 +33,7 @@ pub each-iff : (n : ℕ) (P Q : ℕ → Type 0) → ((j : ℕ) → j < n → (P 
 each-iff n P Q h = each-given n P Q (λ j l given. h j l)
 
 -- a product with something below it has no factor 0
-positive : (c m k : ℕ) → k < c * m → 0 < m
+pub positive : (c m k : ℕ) → k < c * m → 0 < m
 positive c zero k l = absurd (omega arith)
 positive c (suc m) k l = omega arith
 

@@ -2,7 +2,7 @@
 ghost use mathlib.Core.Path.{_≡_};
 ghost use Prim.Native.Nat.{_+_, _<_, _≤_};
 ghost use Rattle.circuit.specs.Places.{blockPlaces, expansionPlaces, place, placeAt, roundPlaces, rowCount};
-ghost use Rattle.circuit.specs.Ranges.{InBlock, InRecord, InStep};
+ghost use Rattle.circuit.specs.Ranges.{InBlock, InRecord, InStep, lines};
 ghost use Rattle.sm3.specs.Message.{blocks};
 
 // A row's number, from 0.
@@ -154,4 +154,45 @@ pub fn place_of(bits: u64, row: RowNumber) -> Place
     }
     let k = k - all;
     step_place(Step::Digest, 0, k / 32, k % 32)
+}
+
+// How many rows a word of a step has; GG has 64 in rounds 0 to 15.
+fn lines_of(step: Step) -> u64
+    ensures { λ r. ⌜ (r ≡ lines step) × (1 ≤ r) × (r ≤ 64) ⌝ }
+{
+    match step {
+        Step::Start => 32,
+        Step::Message => 32,
+        Step::Q => 64,
+        Step::P1 => 64,
+        Step::W => 64,
+        Step::WPrime => 32,
+        Step::U => 35,
+        Step::Ss2 => 32,
+        Step::Ff => 64,
+        Step::Gg => 32,
+        Step::Tt1 => 35,
+        Step::Tt2 => 35,
+        Step::P0 => 64,
+        Step::Result => 32,
+        Step::Digest => 32,
+    }
+}
+
+// The place of the row after `row`, whose place is given. Within a word the line counts on, and no number is divided.
+pub fn next_place(bits: u64, place: Place, row: RowNumber) -> Place
+    requires { ⌜ (bits ≤ 8127) × (row .0 + 1 < rowCount bits) × (place ≡ placeAt bits (row .0)) ⌝ }
+    ensures { λ r. ⌜ r ≡ placeAt bits (row .0 + 1) ⌝ }
+{
+    let step = place.step;
+    let last = lines_of(step) - 1;
+    if place.line < last {
+        return Place {
+            block: place.block,
+            step,
+            index: place.index,
+            line: place.line + 1,
+        };
+    }
+    place_of(bits, RowNumber(row.0 + 1))
 }

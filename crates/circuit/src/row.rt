@@ -2,14 +2,18 @@
 ghost use mathlib.Core.Path.{_≡_};
 ghost use Prim.Native.Nat.{_<_, _≤_};
 ghost use lib.ListN.{length};
-ghost use Rattle.circuit.specs.Circuit.{rowAt};
-ghost use Rattle.circuit.specs.Places.{rowCount};
+ghost use Rattle.circuit.specs.Circuit.{formOf, rowAt};
+ghost use Rattle.circuit.specs.Places.{place, rowCount};
+ghost use Rattle.circuit.specs.Ranges.{InRecord};
 ghost use Rattle.circuit.specs.RowAnswer.{rowAnswer, rowLeft};
-ghost use Rattle.circuit.specs.Terms.{Filled};
+ghost use Rattle.circuit.specs.Terms.{Filled, unsorted};
+use crate::place::Place;
 use crate::place::RowNumber;
+use crate::place::Step;
+use crate::place::place_of;
 use crate::place::row_count;
 use crate::sort::sort_run;
-use crate::step_form::form_at;
+use crate::step_form::form_of;
 use crate::term_bytes::put_terms;
 use crate::terms::Counts;
 use crate::terms::fill;
@@ -26,12 +30,38 @@ pub enum RowAnswer {
     BufferTooShort,
 }
 
+// The terms of the row at a place, in the order of the equation. The place comes in its parts, which pass in registers.
+pub fn place_terms(
+    bits: u64,
+    block: u64,
+    step: Step,
+    index: u64,
+    line: u64,
+    terms: &mut [u64],
+) -> Counts
+    requires { ⌜ (bits ≤ 8127) × InRecord bits (place step block index line) × (326 ≤ length (now terms)) ⌝ }
+    ensures { λ r. ⌜ Filled (unsorted (formOf bits block step index line)) r (now (terms .entry)) (now (terms .exit)) ⌝ }
+{
+    let form = form_of(
+        bits,
+        Place {
+            block,
+            step,
+            index,
+            line,
+        },
+    );
+    fill(form, terms)
+}
+
 // The terms of a row of a record of so many bits, each part by rising wire.
 pub fn row_terms(bits: u64, row: RowNumber, terms: &mut [u64]) -> Counts
     requires { ⌜ (bits ≤ 8127) × (row .0 < rowCount bits) × (326 ≤ length (now terms)) ⌝ }
     ensures { λ r. ⌜ Filled (rowAt bits (row .0)) r (now (terms .entry)) (now (terms .exit)) ⌝ }
 {
-    let counts = fill(form_at(bits, row), terms);
+    let p = place_of(bits, row);
+    let step = p.step;
+    let counts = place_terms(bits, p.block, step, p.index, p.line, terms);
     let a = counts.a;
     let b = a + counts.b;
     let c = b + counts.c;

@@ -1,8 +1,7 @@
-// The form of a row, by its place and by its number.
+// The form of a row, by its place.
 ghost use mathlib.Core.Path.{_≡_};
-ghost use Prim.Native.Nat.{_<_, _≤_};
-ghost use Rattle.circuit.specs.Circuit.{formAt, formOf};
-ghost use Rattle.circuit.specs.Places.{rowCount};
+ghost use Prim.Native.Nat.{_≤_};
+ghost use Rattle.circuit.specs.Circuit.{formOf};
 ghost use Rattle.circuit.specs.Ranges.{InRecord};
 ghost use Rattle.circuit.specs.Terms.{Fit};
 
@@ -12,9 +11,7 @@ pub mod round;
 
 use crate::form::Form;
 use crate::place::Place;
-use crate::place::RowNumber;
 use crate::place::Step;
-use crate::place::place_of;
 use ends::digest_form;
 use ends::message_form;
 use ends::result_form;
@@ -58,13 +55,4 @@ pub fn form_of(bits: u64, place: Place) -> Form
         Step::Result => result_form(first, j, l),
         Step::Digest => digest_form(bits, j, l),
     }
-}
-
-// The form of a row of a record of so many bits.
-pub fn form_at(bits: u64, row: RowNumber) -> Form
-    requires { ⌜ (bits ≤ 8127) × (row .0 < rowCount bits) ⌝ }
-    ensures { λ f. ⌜ (f ≡ formAt bits (row .0)) × Fit f ⌝ }
-{
-    let place = place_of(bits, row);
-    form_of(bits, place)
 }

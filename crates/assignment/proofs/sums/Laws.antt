@@ -1,28 +1,43 @@
--- The sums of a row, term by term. The terms of A, B and C stand one after the other, so term t adds to one of the three sums
--- and leaves the others as they are: those that it is not yet the turn of are still 0, those before it are whole. Each sum
--- is kept as a residue, and what it comes to modulo p depends only on that.
-use mathlib.Core.Bool.{cond}
-use mathlib.Core.List.{List, _++_}
-use mathlib.Core.Logic.{by-cases}
-use mathlib.Core.Path.{_≡_, _∙_, ap, ap₂, refl, subst, sym}
-use Prim.Native.Nat.{ℕ, suc, _+_, _-_, _*_, _%_, _≤_, _<_}
-use native.Mathlib.Decide.{decLt}
-use native.Mathlib.Nat.{sub-zero, zero-sub}
+-- The weighted sum of a part of a row, term by term. A buffer holds two numbers a term; term t of it adds its coefficient times
+-- what its wire reads as, and a sum that is kept as a residue comes to the same modulo p.
+use mathlib.Core.List.{List, [], _∷_, _++_}
+use mathlib.Core.Path.{_≡_, _∙_, ap, ap₂, refl, sym}
+use Prim.Native.Nat.{ℕ, zero, suc, _+_, _-_, _*_, _%_, _≤_, _<_}
+use native.Mathlib.Nat.{sub-self}
 use native.Mathlib.Omega.{arith}
-use borrow.Author.Tests.{le-ltb, lt-ltb}
-use lib.Dec.{ltb}
 use lib.ListN.{List·getD-append, getD, length, length-append, take}
 use lib.Seq.{getD-append-add, take-all, take-suc}
-use Rattle.assignment.specs.declared.sums.Sums.{Sums}
+use Rattle.assignment.specs.Assignment.{entry, fromBytes}
+use Rattle.circuit.proofs.Flat.{flat-length}
 use Rattle.circuit.proofs.Values.{value-append}
 use Rattle.circuit.specs.Rows.{_·_, value}
+use Rattle.circuit.specs.Terms.{flat}
 use Rattle.circuit.specs.Wires.{one}
 use Rattle.circuit.specs.declared.form.Term.{Term}
+use Rattle.field.proofs.Congruence.{mul-mod-mod}
 use Rattle.field.specs.Field.{p}
 
 -- what stands where there is no term
-abbrev pub none : Term
+abbrev none : Term
 none = 0 · one
+
+-- The numbers of term t.
+
+flat-wire : (ts : List Term) (t : ℕ) → getD (flat ts) (2 * t) 0 ≡ getD ts t none .wire .0
+unfolding flat
+flat-wire [] t = refl
+flat-wire (u ∷ ts) zero = refl
+flat-wire (u ∷ ts) (suc t) =
+    let place : 2 * suc t ≡ suc (suc (2 * t)) = omega arith in
+    ap (λ i. getD (flat (u ∷ ts)) i 0) place ∙ flat-wire ts t
+
+flat-coefficient : (ts : List Term) (t : ℕ) → getD (flat ts) (2 * t + 1) 0 ≡ getD ts t none .coefficient
+unfolding flat
+flat-coefficient [] t = refl
+flat-coefficient (u ∷ ts) zero = refl
+flat-coefficient (u ∷ ts) (suc t) =
+    let place : 2 * suc t + 1 ≡ suc (suc (2 * t + 1)) = omega arith in
+    ap (λ i. getD (flat (u ∷ ts)) i 0) place ∙ flat-coefficient ts t
 
 -- an element of the second list
 past : (xs ys : List Term) (t : ℕ) → length xs ≤ t → getD (xs ++ ys) t none ≡ getD ys (t - length xs) none
@@ -30,103 +45,50 @@ past xs ys t l =
     let place : t ≡ length xs + (t - length xs) = omega arith in
     ap (λ i. getD (xs ++ ys) i none) place ∙ getD-append-add xs ys (t - length xs) none
 
-module _ (e : ℕ → ℕ) where
-  -- the value of a term
-  abbrev pub termValue : Term → ℕ
-  termValue t = t .coefficient * e (t .wire .0)
+module _ (bytes terms : List ℕ) (from to : ℕ) where
+  -- s is what the terms from `from` to t come to, whatever terms the buffer holds
+  abbrev pub Running : ℕ → ℕ → Type 0
+  Running t s =
+      (xs ts : List Term) (rest : List ℕ) → length xs ≡ from → from + length ts ≡ to → terms ≡ flat (xs ++ ts) ++ rest
+      → s ≡ value (entry bytes) (take (t - from) ts) % p
 
-  -- what the terms ts come to, which begin at place o, where only the first t terms of all count
-  abbrev pub upTo : List Term → ℕ → ℕ → ℕ
-  upTo ts o t = value e (take (t - o) ts) % p
-
-  upTo-before : (ts : List Term) (o t : ℕ) → t < o → upTo ts o (t + 1) ≡ upTo ts o t
-  upTo-before ts o t l =
-      let still : t + 1 - o ≡ t - o = omega arith in
-      ap (λ n. value e (take n ts) % p) still
-
-  upTo-whole : (ts : List Term) (o t : ℕ) → o + length ts ≤ t → upTo ts o t ≡ value e ts % p
-  upTo-whole ts o t l = ap (λ us. value e us % p) (take-all (t - o) ts (omega arith))
-
-  upTo-after : (ts : List Term) (o t : ℕ) → o + length ts ≤ t → upTo ts o (t + 1) ≡ upTo ts o t
-  upTo-after ts o t l = upTo-whole ts o (t + 1) (omega arith) ∙ sym (upTo-whole ts o t l)
-
-  upTo-next : (ts : List Term) (o t v x : ℕ) → o ≤ t → t < o + length ts → v ≡ upTo ts o t → x ≡ termValue (getD ts (t - o) none) % p
-      → (v + x) % p ≡ upTo ts o (t + 1)
+  pub running-none : Running from 0
   unfolding value
-  upTo-next ts o t v x l h ev ex =
-      let k = t - o in
-      let next : t + 1 - o ≡ suc k = omega arith in
-      let more : value e (take (t + 1 - o) ts) ≡ value e (take k ts) + termValue (getD ts k none) =
-      ap (λ n. value e (take n ts)) next
-      ∙ ap (value e) (take-suc ts k none (omega arith))
-      ∙ value-append e (take k ts) _
+  running-none xs ts rest hx ht e = ap (λ n. value (entry bytes) (take n ts) % p) (sym (sub-self from))
+
+  -- one term more, with the number y on its wire
+  pub running-next : (t s y x : ℕ) → from ≤ t → t < to → Running t s → y ≡ fromBytes 8 bytes (8 * getD terms (2 * t) 0)
+      → x ≡ (getD terms (2 * t + 1) 0 * y) % p → Running (t + 1) ((s + x) % p)
+  unfolding entry value
+  running-next t s y x l h running ey ex xs ts rest hx ht e =
+      let k = t - from in
+      let u = getD ts k none in
+      let all : length (xs ++ ts) ≡ to = length-append xs ts ∙ ap (λ n. n + length ts) hx ∙ ht in
+      let here : getD (xs ++ ts) t none ≡ u = past xs ts t (omega arith) ∙ ap (λ n. getD ts (t - n) none) hx in
+      let wire : getD terms (2 * t) 0 ≡ u .wire .0 =
+      ap (λ ns. getD ns (2 * t) 0) e
+      ∙ List·getD-append (flat (xs ++ ts)) rest 0 (2 * t) (omega (arith, flat-length (xs ++ ts)))
+      ∙ flat-wire (xs ++ ts) t
+      ∙ ap (λ v. v .wire .0) here in
+      let coefficient : getD terms (2 * t + 1) 0 ≡ u .coefficient =
+      ap (λ ns. getD ns (2 * t + 1) 0) e
+      ∙ List·getD-append (flat (xs ++ ts)) rest 0 (2 * t + 1) (omega (arith, flat-length (xs ++ ts)))
+      ∙ flat-coefficient (xs ++ ts) t
+      ∙ ap (λ v. v .coefficient) here in
+      let added : x ≡ (u .coefficient * entry bytes (u .wire .0)) % p =
+      ex
+      ∙ ap (λ v. (getD terms (2 * t + 1) 0 * v) % p) ey
+      ∙ ap₂ (λ c w. (c * fromBytes 8 bytes (8 * w)) % p) coefficient wire
+      ∙ sym (mul-mod-mod (u .coefficient) (fromBytes 8 bytes (8 * u .wire .0)) p) in
+      let next : t + 1 - from ≡ suc k = omega arith in
+      let more : value (entry bytes) (take (t + 1 - from) ts) ≡ value (entry bytes) (take k ts) + u .coefficient * entry bytes (u .wire .0) =
+      ap (λ n. value (entry bytes) (take n ts)) next
+      ∙ ap (value (entry bytes)) (take-suc ts k none (omega arith))
+      ∙ value-append (entry bytes) (take k ts) _
       ∙ omega arith in
-      omega arith
+      omega (arith, running xs ts rest hx ht e)
 
-  -- what A, B and C come to after the first t terms, where B begins at term m and C at term n
-  pub record Summed (A B C : List Term) (m n t : ℕ) (s : Sums) : Type 0 where
-    pub a : s .a ≡ upTo A 0 t
-    pub b : s .b ≡ upTo B m t
-    pub c : s .c ≡ upTo C n t
-
-  module _ (A B C : List Term) (m n : ℕ) (first : m ≡ length A) (second : n ≡ m + length B) where
-    pub summed-none : Summed A B C m n 0 (record { a = 0; b = 0; c = 0 })
-    unfolding value
-    summed-none =
-        record {
-          a = refl;
-          b = ap (λ k. value e (take k B) % p) (sym (zero-sub m));
-          c = ap (λ k. value e (take k C) % p) (sym (zero-sub n));
-        }
-
-    -- plus the value x of term t
-    pub summed-next : (t x : ℕ) (s s′ : Sums) → Summed A B C m n t s → t < n + length C
-        → x ≡ termValue (getD (A ++ B ++ C) t none) % p
-        → s′
-        ≡ cond (ltb t m) (record { a = (s .a + x) % p; b = s .b; c = s .c })
-        (cond (ltb t n) (record { a = s .a; b = (s .b + x) % p; c = s .c }) (record { a = s .a; b = s .b; c = (s .c + x) % p }))
-        → Summed A B C m n (t + 1) s′
-    summed-next t x s s′ h l ex es =
-        let both : length (A ++ B) ≡ n = omega (arith, length-append A B) in
-        by-cases (decLt t m)
-        (λ in-A.
-        let place : getD (A ++ B ++ C) t none ≡ getD A (t - 0) none =
-        List·getD-append (A ++ B) C none t (omega arith)
-        ∙ List·getD-append A B none t (omega arith)
-        ∙ ap (λ i. getD A i none) (sym (sub-zero t)) in
-        rw (es, lt-ltb t m in-A)
-        (record {
-          a = upTo-next A 0 t (s .a) x (omega arith) (omega arith) (h .a) (ex ∙ ap (λ u. termValue u % p) place);
-          b = h .b ∙ sym (upTo-before B m t in-A);
-          c = h .c ∙ sym (upTo-before C n t (omega arith));
-        }))
-        (λ not-A.
-        by-cases (decLt t n)
-        (λ in-B.
-        let place : getD (A ++ B ++ C) t none ≡ getD B (t - m) none =
-        List·getD-append (A ++ B) C none t (omega arith)
-        ∙ past A B t (omega arith)
-        ∙ ap (λ i. getD B (t - i) none) (sym first) in
-        rw (es, le-ltb t m (omega arith), lt-ltb t n in-B)
-        (record {
-          a = h .a ∙ sym (upTo-after A 0 t (omega arith));
-          b = upTo-next B m t (s .b) x (omega arith) (omega arith) (h .b) (ex ∙ ap (λ u. termValue u % p) place);
-          c = h .c ∙ sym (upTo-before C n t in-B);
-        }))
-        (λ not-B.
-        let place : getD (A ++ B ++ C) t none ≡ getD C (t - n) none =
-        past (A ++ B) C t (omega arith) ∙ ap (λ i. getD C (t - i) none) both in
-        rw (es, le-ltb t m (omega arith), le-ltb t n (omega arith))
-        (record {
-          a = h .a ∙ sym (upTo-after A 0 t (omega arith));
-          b = h .b ∙ sym (upTo-after B m t (omega arith));
-          c = upTo-next C n t (s .c) x (omega arith) (omega arith) (h .c) (ex ∙ ap (λ u. termValue u % p) place);
-        })))
-
-    pub summed-all : (t : ℕ) (s : Sums) → t ≡ n + length C → Summed A B C m n t s
-        → (s .a ≡ value e A % p) × (s .b ≡ value e B % p) × (s .c ≡ value e C % p)
-    summed-all t s whole h = (
-      h .a ∙ upTo-whole A 0 t (omega arith),
-      h .b ∙ upTo-whole B m t (omega arith),
-      h .c ∙ upTo-whole C n t (omega arith),
-    )
+  pub running-all : (t s : ℕ) → to ≤ t → Running t s → (xs ts : List Term) (rest : List ℕ) → length xs ≡ from → from + length ts ≡ to
+      → terms ≡ flat (xs ++ ts) ++ rest → s ≡ value (entry bytes) ts % p
+  running-all t s l running xs ts rest hx ht e =
+      running xs ts rest hx ht e ∙ ap (λ us. value (entry bytes) us % p) (take-all (t - from) ts (omega arith))

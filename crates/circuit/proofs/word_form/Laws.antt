@@ -1,11 +1,12 @@
 -- Of the two rows of a position the first has the bit row and the second the equation, on the wires of that position. And a form
 -- depends on its words alone.
 use mathlib.Core.Path.{_≡_, _∙_, ap}
-use Prim.Native.Nat.{ℕ, _/_, _%_}
-use borrow.Author.Tests.{eq-eqb, ne-eqb}
+use Prim.Native.Nat.{ℕ, _/_, _%_, _<_}
+use borrow.Author.Tests.{eq-eqb, lt-ltb, ne-eqb}
 use Rattle.circuit.specs.Circuit.{choiceOf, four, paired, summed, two, xorOfTwo}
 use Rattle.circuit.specs.Terms.{Fit}
 use Rattle.circuit.specs.Wires.{wireAt}
+use Rattle.circuit.specs.declared.form.Addends.{Addends}
 use Rattle.circuit.specs.declared.form.Form.{Form}
 use Rattle.circuit.specs.declared.form.Form.the-variants.{Bit}
 use Rattle.circuit.specs.declared.wire.WireNumber.{WireNumber}
@@ -20,6 +21,11 @@ module _ (equation : WireNumber → WireNumber → WireNumber → WireNumber →
       → d ≡ wireAt r (l / 2) → equation a b c d ≡ paired equation x y z r l
   unfolding paired
   paired-equation h ea eb ec ed = rw (ne-eqb (l % 2) 0 h) (λ i. equation (ea i) (eb i) (ec i) (ed i))
+
+-- The bit rows of a sum are those of its result, whatever is added up.
+pub sum-bit : (s t : Addends) (k k' r l : ℕ) → l < 34 → summed s k r l ≡ summed t k' r l
+unfolding summed
+sum-bit s t k k' r l h = rw (lt-ltb l 34 h)
 
 -- A form of words is the form of words equal to them.
 

@@ -18,7 +18,7 @@ use crate::word_form::sum;
 use crate::word_form::xor_of_two;
 use sm3::constants::turned_constant;
 
-// u = A<<<12 + E + T<<<(j mod 32)
+// u = A<<<12 + E + T<<<(j mod 32). Only the equation, behind the 34 bit rows, needs the table.
 pub fn u_form(first: u64, j: u64, l: u64) -> Form
     requires { ⌜ StepRow U first j l ⌝ }
     ensures { λ f. ⌜ (f ≡ uForm first (standsBefore first j) j l) × Fit f ⌝ }
@@ -32,8 +32,12 @@ pub fn u_form(first: u64, j: u64, l: u64) -> Form
         z: x,
         t: y,
     };
+    let r = first + 7552 + 230 * j;
+    if l < 34 {
+        return sum(addends, 0, r, l);
+    }
     let t = turned_constant(j as usize);
-    sum(addends, t as u64, first + 7552 + 230 * j, l)
+    sum(addends, t as u64, r, l)
 }
 
 // SS2 = SS1 xor A<<<12, where SS1 = u<<<7

@@ -1,165 +1,171 @@
--- .
-use mathlib.Core.Path.{_≡_, _∙_, ap, refl, sym}
+-- Before each turn all rows below row k hold, so the lowest failing row of all is that of the rows from k on; and `place` is the
+-- place of row k, whose terms are held against the assignment.
+use mathlib.Core.Path.{_≡_, _∙_, ap, refl, subst, sym}
 use native.Mathlib.Nat.{sub-zero}
-use Prim.Native.Nat.{_-_, _*_, _≤_}
+use Prim.Native.Nat.{_-_, _*_, _≤_, _<_}
 use native.Mathlib.Omega.{arith}
 use borrow.Author.Needs.{needs}
+use borrow.Author.Tests.{eq-eqb, ne-eqb}
 use lib.ListN.{length}
 use Rattle.assignment.specs.Assignment.{entry}
 use Rattle.assignment.specs.Check.{lowest}
-use Rattle.assignment.proofs.rows_check.Laws.{Judging, lowest-end, lowest-fails, lowest-holds, next, row-fails, row-holds, starts, within}
-use Rattle.circuit.specs.Circuit.{rowAt}
-use Rattle.circuit.proofs.FewTerms.{few}
+use Rattle.assignment.proofs.rows_check.Laws.{lent, lowest-end, lowest-fails, lowest-holds, row-fails, row-holds}
+use Rattle.circuit.proofs.PlaceRange.{in-record}
+use Rattle.circuit.specs.Circuit.{formAt, rowAt}
+use Rattle.circuit.specs.Places.{placeAt, rowCount}
+use Rattle.circuit.specs.Ranges.{InRecord}
 use Rattle.assignment.proofs.rows_check.lowest_unsatisfied.Statement.{statement}
 use Rattle.assignment.proofs.rows_check.lowest_unsatisfied.Tie as tie
 
-abbrev Inv-loop : tie.InvT-loop
-Inv-loop bits assignment count terms k a ab sums₀ t₀ t-end sums t =
-    Judging bits k assignment terms a ab t-end t sums
-
-abbrev μ-loop : tie.MeasureT-loop
-μ-loop bits assignment count terms k a ab sums₀ t₀ t-end sums t = t-end - t
-
 abbrev Inv-rows : tie.InvT-rows
-Inv-rows bits assignment count terms₀ k₀ terms k =
-    (k ≤ count) × (length terms ≡ 326)
+Inv-rows bits assignment count terms₀ place₀ k₀ terms place k =
+    (k < count) × (length terms ≡ 326) × (place ≡ placeAt bits k)
     × (lowest (entry assignment) (rowAt bits) 0 count ≡ lowest (entry assignment) (rowAt bits) k (count - k))
 
 abbrev μ-rows : tie.MeasureT-rows
-μ-rows bits assignment count terms₀ k₀ terms k = count - k
+μ-rows bits assignment count terms₀ place₀ k₀ terms place k = count - k
 
-row-count-requires : tie.Need-row-count-requires Inv-loop μ-loop Inv-rows μ-rows
+row-count-requires : tie.Need-row-count-requires Inv-rows μ-rows
 row-count-requires c κs = search needs
 
-rows-holds : tie.Need-rows-holds Inv-loop μ-loop Inv-rows μ-rows
-rows-holds c = (omega arith, refl, ap (lowest _ _ 0) (sym (sub-zero _)))
+place-of-requires : tie.Need-place-of-requires Inv-rows μ-rows
+unfolding rowCount
+place-of-requires c κs = omega arith
 
-form-at-requires : tie.Need-form-at-requires Inv-loop μ-loop Inv-rows μ-rows
-form-at-requires c κs = omega arith
+rows-holds : tie.Need-rows-holds Inv-rows μ-rows
+unfolding rowCount
+rows-holds c = (omega arith, refl, c .place-of .ensures .0, ap (lowest _ _ 0) (sym (sub-zero _)))
 
-slice-aggregate-fill : tie.Need-slice-aggregate-fill Inv-loop μ-loop Inv-rows μ-rows
-slice-aggregate-fill c = sym (c .before .before .before .rows .inv .1)
+slice-aggregate-place-terms : tie.Need-slice-aggregate-place-terms Inv-rows μ-rows
+slice-aggregate-place-terms c = sym (c .before .rows .inv .1)
 
-fill-requires : tie.Need-fill-requires Inv-loop μ-loop Inv-rows μ-rows
-fill-requires c κs =
-    let form = c .before .form-at .ensures in
-    (omega arith, form .1, rw (form .0) (few _ _))
+place-terms-requires : tie.Need-place-terms-requires Inv-rows μ-rows
+place-terms-requires c κs =
+    let inv = c .before .rows .inv in
+    (omega arith, subst (InRecord _) (sym (inv .2)) (in-record _ _ (omega arith)), omega (arith, inv .1))
 
-add-ab : tie.Need-add-ab Inv-loop μ-loop Inv-rows μ-rows
-add-ab c = omega (arith, c .before .before .fill .ensures .few)
+add-c : tie.Need-add-c Inv-rows μ-rows
+add-c c = search needs
 
-add-t-end : tie.Need-add-t-end Inv-loop μ-loop Inv-rows μ-rows
-add-t-end c = omega (arith, c .before .before .before .fill .ensures .few)
+slice-aggregate-part-value : tie.Need-slice-aggregate-part-value Inv-rows μ-rows
+slice-aggregate-part-value c = search needs
 
-loop-holds : tie.Need-loop-holds Inv-loop μ-loop Inv-rows μ-rows
-loop-holds c =
-    starts _ _ _ (c .before .before .before .before .before .form-at .result) (c .before .before .before .fill .result) _ _ (omega arith)
-    (c .before .before .before .before .before .form-at .ensures .0) (c .before .before .before .fill .ensures)
+part-value-requires : tie.Need-part-value-requires Inv-rows μ-rows
+part-value-requires c κs =
+    let filled = c .before .before .before in
+    let inv = filled .before .before .rows .inv in
+    lent _ _ (omega arith) _ (inv .2) _ _ _ (filled .place-terms .ensures) _ (filled .before .before .before .before .before .before .pre .1) (inv .1) _ _ (omega arith) (omega arith)
 
-mul-plus : tie.Need-mul-plus Inv-loop μ-loop Inv-rows μ-rows
-mul-plus c = omega arith
+slice-aggregate-part-value-2 : tie.Need-slice-aggregate-part-value-2 Inv-rows μ-rows
+slice-aggregate-part-value-2 c = search needs
 
-mul-plus-2 : tie.Need-mul-plus-2 Inv-loop μ-loop Inv-rows μ-rows
-mul-plus-2 c = omega arith
+part-value-requires-2 : tie.Need-part-value-requires-2 Inv-rows μ-rows
+part-value-requires-2 c κs =
+    let filled = c .before .before .before .before .before in
+    let inv = filled .before .before .rows .inv in
+    lent _ _ (omega arith) _ (inv .2) _ _ _ (filled .place-terms .ensures) _ (filled .before .before .before .before .before .before .pre .1) (inv .1) _ _ (omega arith) (omega arith)
 
-array-read-plus : tie.Need-array-read-plus Inv-loop μ-loop Inv-rows μ-rows
-array-read-plus c = omega arith
+slice-aggregate-part-value-3 : tie.Need-slice-aggregate-part-value-3 Inv-rows μ-rows
+slice-aggregate-part-value-3 c = search needs
 
-raw-requires : tie.Need-raw-requires Inv-loop μ-loop Inv-rows μ-rows
-raw-requires c κs = omega (arith, within (c .before .loop .inv) (c .loop-test .taken))
+add-part-value : tie.Need-add-part-value Inv-rows μ-rows
+add-part-value c = search needs
 
-mul-times : tie.Need-mul-times Inv-loop μ-loop Inv-rows μ-rows
-mul-times c = omega arith
+part-value-requires-3 : tie.Need-part-value-requires-3 Inv-rows μ-rows
+part-value-requires-3 c κs =
+    let filled = c .before .before .before .before .before .before .before .before in
+    let inv = filled .before .before .rows .inv in
+    lent _ _ (omega arith) _ (inv .2) _ _ _ (filled .place-terms .ensures) _ (filled .before .before .before .before .before .before .pre .1) (inv .1) _ _ (omega arith) (omega arith)
 
-add-times : tie.Need-add-times Inv-loop μ-loop Inv-rows μ-rows
-add-times c = omega arith
+part-product-requires : tie.Need-part-product-requires Inv-rows μ-rows
+part-product-requires c κs = search needs
 
-mul-times-2 : tie.Need-mul-times-2 Inv-loop μ-loop Inv-rows μ-rows
-mul-times-2 c = omega arith
+add-if2 : tie.Need-add-if2 Inv-rows μ-rows
+add-if2 c = search needs
 
-array-read-times : tie.Need-array-read-times Inv-loop μ-loop Inv-rows μ-rows
-array-read-times c = omega arith
+next-place-requires : tie.Need-next-place-requires Inv-rows μ-rows
+next-place-requires c κs =
+    let turn = c .before .before .before .before .before .before .before .before .before .before .before .before .before .before in
+    (turn .before .before .before .before .pre .0, omega (arith, turn .rows .inv .0, turn .before .before .row-count .ensures), turn .rows .inv .2)
 
-times-requires : tie.Need-times-requires Inv-loop μ-loop Inv-rows μ-rows
-times-requires c κs = within (c .before .before .loop .inv) (c .before .loop-test .taken) .1
-
-plus-requires : tie.Need-plus-requires Inv-loop μ-loop Inv-rows μ-rows
-plus-requires c κs = omega arith
-
-add-t : tie.Need-add-t Inv-loop μ-loop Inv-rows μ-rows
-add-t c = omega arith
-
-loop-less : tie.Need-loop-less Inv-loop μ-loop Inv-rows μ-rows
-loop-less c = omega arith
-
-loop-again : tie.Need-loop-again Inv-loop μ-loop Inv-rows μ-rows
-loop-again c =
-    next (c .before .before .before .before .loop .inv) (c .before .before .before .loop-test .taken) _ _ _ (c .before .before .raw .ensures)
-    (c .before .times .ensures) (c .plus .ensures)
-
-product-requires : tie.Need-product-requires Inv-loop μ-loop Inv-rows μ-rows
-product-requires c κs = omega arith
-
-add-k : tie.Need-add-k Inv-loop μ-loop Inv-rows μ-rows
+add-k : tie.Need-add-k Inv-rows μ-rows
 add-k c = search needs
 
-rows-less : tie.Need-rows-less Inv-loop μ-loop Inv-rows μ-rows
+rows-less : tie.Need-rows-less Inv-rows μ-rows
 rows-less c = omega arith
 
-rows-again : tie.Need-rows-again Inv-loop μ-loop Inv-rows μ-rows
+rows-again : tie.Need-rows-again Inv-rows μ-rows
 rows-again c =
-    let r = c .before .before .before .before .before .before .before .before .before .before .before .before .rows in (
+    let product = c .before .before .before in
+    let third = product .before in
+    let second = third .before .before .before in
+    let first = second .before .before in
+    let filled = first .before .before .before .before in
+    let turn = filled .before .before in
+    let inv = turn .rows .inv in
+    let holds =
+    row-holds _ _ (omega arith) _ (inv .2) _ _ _ (filled .place-terms .ensures) _ _ _ _ (first .part-value .ensures .1) (second .part-value2 .ensures .1)
+    (third .part-value3 .ensures .1) _ (product .part-product .ensures) (c .before .before .if1 .left) in (
       omega arith,
-      c .before .before .before .before .before .before .before .before .fill .ensures .kept ∙ r .inv .1,
-      r .inv .2
-          ∙ lowest-holds _ _ _ _ (omega arith)
-          (row-holds (c .before .before .before .before .loop .inv) (c .before .before .before .loop-test .left) _ (c .before .before .product .ensures) (c .if2 .left)),
+      filled .place-terms .ensures .kept ∙ inv .1,
+      c .next-place .ensures,
+      inv .3 ∙ lowest-holds _ _ _ _ (omega arith) holds,
     )
 
-returns : tie.Need-returns Inv-loop μ-loop Inv-rows μ-rows
+returns : tie.Need-returns Inv-rows μ-rows
 returns c =
-    let r = c .before .rows in
-    sym (ap (lowest _ _ 0) (sym (c .before .before .row-count .ensures)) ∙ r .inv .2 ∙ lowest-end _ _ _ _ (c .if1 .taken))
+    let product = c .before in
+    let third = product .before in
+    let second = third .before .before .before in
+    let first = second .before .before in
+    let filled = first .before .before .before .before in
+    let turn = filled .before .before in
+    let inv = turn .rows .inv in
+    let fails =
+    row-fails _ _ (omega arith) _ (inv .2) _ _ _ (filled .place-terms .ensures) _ _ _ _ (first .part-value .ensures .1) (second .part-value2 .ensures .1)
+    (third .part-value3 .ensures .1) _ (product .part-product .ensures) (c .if1 .taken) in
+    sym (ap (lowest _ _ 0) (sym (turn .before .before .row-count .ensures)) ∙ inv .3 ∙ lowest-fails _ _ _ _ (omega arith) fails)
 
-returns-2 : tie.Need-returns-2 Inv-loop μ-loop Inv-rows μ-rows
+returns-2 : tie.Need-returns-2 Inv-rows μ-rows
 returns-2 c =
-    let r = c .before .before .before .before .before .before .before .before .before .before .before .before .rows in
+    let product = c .before .before in
+    let third = product .before in
+    let second = third .before .before .before in
+    let first = second .before .before in
+    let filled = first .before .before .before .before in
+    let turn = filled .before .before in
+    let inv = turn .rows .inv in
+    let holds =
+    row-holds _ _ (omega arith) _ (inv .2) _ _ _ (filled .place-terms .ensures) _ _ _ _ (first .part-value .ensures .1) (second .part-value2 .ensures .1)
+    (third .part-value3 .ensures .1) _ (product .part-product .ensures) (c .before .if1 .left) in
     sym
-    (ap (lowest _ _ 0) (sym (c .before .before .before .before .before .before .before .before .before .before .before .before .before .row-count .ensures))
-    ∙ r .inv .2
-    ∙ lowest-fails _ _ _ _ (omega arith)
-    (row-fails (c .before .before .before .before .loop .inv) (c .before .before .before .loop-test .left) _ (c .before .before .product .ensures) (c .if2 .taken)))
+    (ap (lowest _ _ 0) (sym (turn .before .before .row-count .ensures))
+    ∙ inv .3
+    ∙ lowest-holds _ _ _ _ (omega arith) holds
+    ∙ lowest-end _ _ _ _ (c .if2 .taken))
 
 pub lowest-unsatisfied-spec : {M : Type 1} → statement M
 lowest-unsatisfied-spec =
     tie.close
     (tie.spec
-    Inv-loop
-    μ-loop
     Inv-rows
     μ-rows
     row-count-requires
+    place-of-requires
     rows-holds
-    form-at-requires
-    slice-aggregate-fill
-    fill-requires
-    add-ab
-    add-t-end
-    loop-holds
-    mul-plus
-    mul-plus-2
-    array-read-plus
-    raw-requires
-    mul-times
-    add-times
-    mul-times-2
-    array-read-times
-    times-requires
-    plus-requires
-    add-t
-    loop-less
-    loop-again
-    product-requires
+    slice-aggregate-place-terms
+    place-terms-requires
+    add-c
+    slice-aggregate-part-value
+    part-value-requires
+    slice-aggregate-part-value-2
+    part-value-requires-2
+    slice-aggregate-part-value-3
+    add-part-value
+    part-value-requires-3
+    part-product-requires
+    add-if2
+    next-place-requires
     add-k
     rows-less
     rows-again

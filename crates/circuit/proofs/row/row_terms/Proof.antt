@@ -1,18 +1,15 @@
--- The form's terms are filled in and each part's run is sorted, which gives the row of that form.
+-- The terms of the form at the row's place are filled in and each part's run is sorted, which gives the row of that form.
 use borrow.Author.Needs.{needs}
-use Rattle.circuit.proofs.FewTerms.{few}
 use Rattle.circuit.proofs.SortedRow.{sorted-filled}
-use Rattle.circuit.specs.Circuit.{rowAt}
+use Rattle.circuit.specs.Circuit.{formAt, rowAt}
 use Rattle.circuit.proofs.row.row_terms.Statement.{statement}
 use Rattle.circuit.proofs.row.row_terms.Tie as tie
 
-form-at-requires : tie.Need-form-at-requires
-form-at-requires c κs = search needs
+place-of-requires : tie.Need-place-of-requires
+place-of-requires c κs = search needs
 
-fill-requires : tie.Need-fill-requires
-fill-requires c κs =
-    let form = c .before .form-at .ensures in
-    (search needs, form .1, rw (form .0) (few _ _))
+place-terms-requires : tie.Need-place-terms-requires
+place-terms-requires c κs = search needs
 
 add-b : tie.Need-add-b
 add-b c = search needs
@@ -33,21 +30,21 @@ same-length : tie.Need-same-length
 same-length c = search needs
 
 returns : tie.Need-returns
-unfolding rowAt
+unfolding formAt rowAt
 returns c =
     let third = c .before .before in
     let second = third .before .before .before .before in
     let first = second .before .before .before .before in
-    let filled = c .before .before .before .before .before .before .before .before .before .before .before .before .before .before .before .before in
-    rw (← filled .before .before .form-at .ensures .0)
-    (sorted-filled _ _ (filled .fill .ensures) (first .sort-run .ensures) (second .sort-run2 .ensures) (third .sort-run3 .ensures))
+    let filled = first .before .before .before .before .before .before in
+    rw (← filled .before .before .place-of .ensures .0)
+    (sorted-filled _ _ (filled .place-terms .ensures) (first .sort-run .ensures) (second .sort-run2 .ensures) (third .sort-run3 .ensures))
 
 pub row-terms-spec : {M : Type 1} → statement M
 row-terms-spec =
     tie.close
     (tie.spec
-    form-at-requires
-    fill-requires
+    place-of-requires
+    place-terms-requires
     add-b
     add-c
     sort-run-requires
