@@ -16,7 +16,8 @@ use circuit::place::place_of;
 use circuit::place::row_count;
 use circuit::row::place_terms;
 
-// The lowest row of a record of so many bits that is not satisfied, if there is one.
+// The lowest row of a record of so many bits that is not satisfied, if there is one: the rows outside, and inside the terms of
+// each part of a row.
 pub fn lowest_unsatisfied(bits: u64, assignment: &[u8]) -> CheckAnswer
     requires { ⌜ (bits ≤ 8127) × (length (now assignment) ≡ 8 * wireCount bits) ⌝ }
     ensures { λ r. ⌜ r ≡ lowest (entry (now (assignment .entry))) (rowAt bits) 0 (rowCount bits) ⌝ }
