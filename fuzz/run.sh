@@ -13,11 +13,16 @@ archive=${SM3ROWS_LIB:-$root/target/staticlib/libsm3rows.a}
 work=$root/target/fuzz
 mkdir -p "$work"
 
+install() {
+    { apt-get update && apt-get install -y "$1"; } > /dev/null
+}
+command -v objcopy > /dev/null || install binutils
+command -v clang > /dev/null || install clang
+
 # A program's object whose main, read and write have other names, for the harness to call and to answer.
 for program in rows steps; do
     object=$root/target/obj/$program.o
     [ -f "$object" ] || { echo "no program: run 'rt check $program' first" >&2; exit 1; }
-    command -v objcopy > /dev/null || apt-get install -y binutils > /dev/null
     objcopy --redefine-sym "main=${program}_main" --redefine-sym read=line_read --redefine-sym write=line_write \
         "$object" "$work/$program.o"
 done
@@ -31,7 +36,7 @@ build() {
 }
 # clang's runtime for the sanitizers is a package of its own on some systems.
 build entry "$archive" 2> /dev/null ||
-    { apt-get install -y clang "libclang-rt-$(clang -dumpversion | cut -d. -f1)-dev" > /dev/null; build entry "$archive"; }
+    { install "libclang-rt-$(clang -dumpversion | cut -d. -f1)-dev" && build entry "$archive"; }
 build line "$work/rows.o" "$work/steps.o"
 
 # One input for each function, and some lines, to begin with.
