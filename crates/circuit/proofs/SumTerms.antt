@@ -141,6 +141,5 @@ module _ (s : Addends) where
       let start : 0 + length (summands s k) ≡ n = omega arith in
       let end : length (summands s k ++ taken r) ≡ n + 34 =
       length-append (summands s k) (taken r) ∙ ap₂ (λ i j. i + j) (sym long) (taken-length r) in
-      filled (unsorted (Sum s k r)) (record { a = n + 34; b = 1; c = 0 })
-      (rw (unsorted-sum s k r) (then (n + 34) (zero-add _ ∙ end) (then n start p q) u))
+      filled (rw (unsorted-sum s k r) (then (n + 34) (zero-add _ ∙ end) (then n start p q) u))
       (rw (nonzero-sum s k r) (sym end)) refl refl (omega arith)

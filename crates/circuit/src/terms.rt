@@ -11,7 +11,6 @@ ghost use Rattle.circuit.specs.declared.form.Form.the-variants.{Bit, Cho
 ghost use Rattle.sm3.specs.Words.{tab};
 use crate::form::Addends;
 use crate::form::Form;
-use crate::form::Term;
 use crate::wire::WireNumber;
 use crate::wire::WordWires;
 use crate::wire::wire_of_bit;
@@ -25,14 +24,13 @@ pub struct Counts {
     pub c: usize,
 }
 
-// Writes a term behind the first n.
-fn push(terms: &mut [u64], n: usize, term: Term)
+// Writes a term behind the first n: a wire and its coefficient.
+fn push(terms: &mut [u64], n: usize, wire: WireNumber, coefficient: u64)
     requires { ⌜ 2 * n + 2 ≤ length (now terms) ⌝ }
-    ensures { λ _. ⌜ Appended n (term ∷ []) (now (terms .entry)) (now (terms .exit)) ⌝ }
+    ensures { λ _. ⌜ Appended n (coefficient · wire ∷ []) (now (terms .entry)) (now (terms .exit)) ⌝ }
 {
-    let wire = term.wire;
     terms[2 * n] = wire.0;
-    terms[2 * n + 1] = term.coefficient;
+    terms[2 * n + 1] = coefficient;
 }
 
 // Writes k times wire 0 behind the first n terms, unless k is 0; how many terms that is.
@@ -43,46 +41,18 @@ fn push_constant(terms: &mut [u64], n: usize, k: u64) -> usize
     if k == 0 {
         return 0;
     }
-    push(
-        terms,
-        n,
-        Term {
-            wire: WireNumber(0),
-            coefficient: k,
-        },
-    );
+    push(terms, n, WireNumber(0), k);
     1
 }
 
-// Writes k times each of three wires behind the first n terms.
-fn push_three(terms: &mut [u64], n: usize, k: u64, x: WireNumber, y: WireNumber, z: WireNumber)
+// Writes three wires with one coefficient behind the first n terms.
+fn push_three(terms: &mut [u64], n: usize, x: WireNumber, y: WireNumber, z: WireNumber, k: u64)
     requires { ⌜ 2 * n + 6 ≤ length (now terms) ⌝ }
     ensures { λ _. ⌜ Appended n (k · x ∷ k · y ∷ k · z ∷ []) (now (terms .entry)) (now (terms .exit)) ⌝ }
 {
-    push(
-        terms,
-        n,
-        Term {
-            wire: x,
-            coefficient: k,
-        },
-    );
-    push(
-        terms,
-        n + 1,
-        Term {
-            wire: y,
-            coefficient: k,
-        },
-    );
-    push(
-        terms,
-        n + 2,
-        Term {
-            wire: z,
-            coefficient: k,
-        },
-    );
+    push(terms, n, x, k);
+    push(terms, n + 1, y, k);
+    push(terms, n + 2, z, k);
 }
 
 // Writes a word's wires with their weights behind the first n terms.
@@ -92,14 +62,7 @@ fn push_word(terms: &mut [u64], n: usize, x: WordWires)
 {
     let mut weight: u64 = 2147483648;
     for i in 0..32 {
-        push(
-            terms,
-            n + i as usize,
-            Term {
-                wire: wire_of_bit(x, i),
-                coefficient: weight,
-            },
-        );
+        push(terms, n + i as usize, wire_of_bit(x, i), weight);
         weight = weight / 2;
     }
 }
@@ -111,14 +74,7 @@ fn push_result(terms: &mut [u64], n: usize, r: WireNumber)
 {
     let mut weight: u64 = 2147483648;
     for i in 0..32 {
-        push(
-            terms,
-            n + i as usize,
-            Term {
-                wire: wire_past(r, i),
-                coefficient: P - weight,
-            },
-        );
+        push(terms, n + i as usize, wire_past(r, i), P - weight);
         weight = weight / 2;
     }
 }
@@ -129,22 +85,8 @@ fn push_taken(terms: &mut [u64], n: usize, r: WireNumber)
     ensures { λ _. ⌜ Appended n (taken r) (now (terms .entry)) (now (terms .exit)) ⌝ }
 {
     push_result(terms, n, r);
-    push(
-        terms,
-        n + 32,
-        Term {
-            wire: wire_past(r, 32),
-            coefficient: P - 8589934592,
-        },
-    );
-    push(
-        terms,
-        n + 33,
-        Term {
-            wire: wire_past(r, 33),
-            coefficient: P - 4294967296,
-        },
-    );
+    push(terms, n + 32, wire_past(r, 32), P - 8589934592);
+    push(terms, n + 33, wire_past(r, 33), P - 4294967296);
 }
 
 // Writes the words that are added up; how many terms that is.
@@ -181,22 +123,8 @@ fn fill_fixed(terms: &mut [u64], w: WireNumber, bit: u64) -> Counts
     requires { ⌜ 326 ≤ length (now terms) ⌝ }
     ensures { λ r. ⌜ Filled (unsorted (Fixed w bit)) r (now (terms .entry)) (now (terms .exit)) ⌝ }
 {
-    push(
-        terms,
-        0,
-        Term {
-            wire: w,
-            coefficient: 1,
-        },
-    );
-    push(
-        terms,
-        1,
-        Term {
-            wire: WireNumber(0),
-            coefficient: 1,
-        },
-    );
+    push(terms, 0, w, 1);
+    push(terms, 1, WireNumber(0), 1);
     let c = push_constant(terms, 2, bit);
     Counts { a: 1, b: 1, c }
 }
@@ -206,30 +134,9 @@ fn fill_bit(terms: &mut [u64], w: WireNumber) -> Counts
     requires { ⌜ 326 ≤ length (now terms) ⌝ }
     ensures { λ r. ⌜ Filled (unsorted (Bit w)) r (now (terms .entry)) (now (terms .exit)) ⌝ }
 {
-    push(
-        terms,
-        0,
-        Term {
-            wire: w,
-            coefficient: 1,
-        },
-    );
-    push(
-        terms,
-        1,
-        Term {
-            wire: w,
-            coefficient: 1,
-        },
-    );
-    push(
-        terms,
-        2,
-        Term {
-            wire: WireNumber(0),
-            coefficient: P - 1,
-        },
-    );
+    push(terms, 0, w, 1);
+    push(terms, 1, w, 1);
+    push(terms, 2, WireNumber(0), P - 1);
     Counts { a: 1, b: 2, c: 0 }
 }
 
@@ -238,46 +145,11 @@ fn fill_xor_of_two(terms: &mut [u64], x: WireNumber, y: WireNumber, r: WireNumbe
     requires { ⌜ 326 ≤ length (now terms) ⌝ }
     ensures { λ counts. ⌜ Filled (unsorted (XorOfTwo x y r)) counts (now (terms .entry)) (now (terms .exit)) ⌝ }
 {
-    push(
-        terms,
-        0,
-        Term {
-            wire: x,
-            coefficient: 2,
-        },
-    );
-    push(
-        terms,
-        1,
-        Term {
-            wire: y,
-            coefficient: 1,
-        },
-    );
-    push(
-        terms,
-        2,
-        Term {
-            wire: x,
-            coefficient: 1,
-        },
-    );
-    push(
-        terms,
-        3,
-        Term {
-            wire: y,
-            coefficient: 1,
-        },
-    );
-    push(
-        terms,
-        4,
-        Term {
-            wire: r,
-            coefficient: P - 1,
-        },
-    );
+    push(terms, 0, x, 2);
+    push(terms, 1, y, 1);
+    push(terms, 2, x, 1);
+    push(terms, 3, y, 1);
+    push(terms, 4, r, P - 1);
     Counts { a: 1, b: 1, c: 3 }
 }
 
@@ -292,32 +164,11 @@ fn fill_xor_of_three(
     requires { ⌜ 326 ≤ length (now terms) ⌝ }
     ensures { λ counts. ⌜ Filled (unsorted (XorOfThree x y z r)) counts (now (terms .entry)) (now (terms .exit)) ⌝ }
 {
-    push_three(terms, 0, 1, x, y, z);
-    push(
-        terms,
-        3,
-        Term {
-            wire: r,
-            coefficient: P - 1,
-        },
-    );
-    push_three(terms, 4, 1, x, y, z);
-    push(
-        terms,
-        7,
-        Term {
-            wire: r,
-            coefficient: P - 1,
-        },
-    );
-    push(
-        terms,
-        8,
-        Term {
-            wire: WireNumber(0),
-            coefficient: P - 2,
-        },
-    );
+    push_three(terms, 0, x, y, z, 1);
+    push(terms, 3, r, P - 1);
+    push_three(terms, 4, x, y, z, 1);
+    push(terms, 7, r, P - 1);
+    push(terms, 8, WireNumber(0), P - 2);
     Counts { a: 4, b: 5, c: 0 }
 }
 
@@ -332,32 +183,11 @@ fn fill_majority(
     requires { ⌜ 326 ≤ length (now terms) ⌝ }
     ensures { λ counts. ⌜ Filled (unsorted (Majority x y z r)) counts (now (terms .entry)) (now (terms .exit)) ⌝ }
 {
-    push_three(terms, 0, 1, x, y, z);
-    push(
-        terms,
-        3,
-        Term {
-            wire: r,
-            coefficient: P - 2,
-        },
-    );
-    push(
-        terms,
-        4,
-        Term {
-            wire: WireNumber(0),
-            coefficient: 1,
-        },
-    );
-    push_three(terms, 5, P - 1, x, y, z);
-    push(
-        terms,
-        8,
-        Term {
-            wire: r,
-            coefficient: 2,
-        },
-    );
+    push_three(terms, 0, x, y, z, 1);
+    push(terms, 3, r, P - 2);
+    push(terms, 4, WireNumber(0), 1);
+    push_three(terms, 5, x, y, z, P - 1);
+    push(terms, 8, r, 2);
     Counts { a: 4, b: 5, c: 0 }
 }
 
@@ -372,46 +202,11 @@ fn fill_choice(
     requires { ⌜ 326 ≤ length (now terms) ⌝ }
     ensures { λ counts. ⌜ Filled (unsorted (Choice x y z r)) counts (now (terms .entry)) (now (terms .exit)) ⌝ }
 {
-    push(
-        terms,
-        0,
-        Term {
-            wire: x,
-            coefficient: 1,
-        },
-    );
-    push(
-        terms,
-        1,
-        Term {
-            wire: y,
-            coefficient: 1,
-        },
-    );
-    push(
-        terms,
-        2,
-        Term {
-            wire: z,
-            coefficient: P - 1,
-        },
-    );
-    push(
-        terms,
-        3,
-        Term {
-            wire: r,
-            coefficient: 1,
-        },
-    );
-    push(
-        terms,
-        4,
-        Term {
-            wire: z,
-            coefficient: P - 1,
-        },
-    );
+    push(terms, 0, x, 1);
+    push(terms, 1, y, 1);
+    push(terms, 2, z, P - 1);
+    push(terms, 3, r, 1);
+    push(terms, 4, z, P - 1);
     Counts { a: 1, b: 2, c: 2 }
 }
 
@@ -422,14 +217,7 @@ fn fill_sum(terms: &mut [u64], addends: Addends, constant: u64, r: WireNumber) -
 {
     let n = push_summands(terms, addends, constant);
     push_taken(terms, n, r);
-    push(
-        terms,
-        n + 34,
-        Term {
-            wire: WireNumber(0),
-            coefficient: 1,
-        },
-    );
+    push(terms, n + 34, WireNumber(0), 1);
     Counts {
         a: n + 34,
         b: 1,
@@ -442,30 +230,9 @@ fn fill_equal(terms: &mut [u64], x: WireNumber, y: WireNumber) -> Counts
     requires { ⌜ 326 ≤ length (now terms) ⌝ }
     ensures { λ r. ⌜ Filled (unsorted (Equal x y)) r (now (terms .entry)) (now (terms .exit)) ⌝ }
 {
-    push(
-        terms,
-        0,
-        Term {
-            wire: x,
-            coefficient: 1,
-        },
-    );
-    push(
-        terms,
-        1,
-        Term {
-            wire: y,
-            coefficient: P - 1,
-        },
-    );
-    push(
-        terms,
-        2,
-        Term {
-            wire: WireNumber(0),
-            coefficient: 1,
-        },
-    );
+    push(terms, 0, x, 1);
+    push(terms, 1, y, P - 1);
+    push(terms, 2, WireNumber(0), 1);
     Counts { a: 2, b: 1, c: 0 }
 }
 

@@ -46,7 +46,8 @@ enum-known-form-7 c = search needs
 fill-sum-requires : tie.Need-fill-sum-requires
 fill-sum-requires c κs =
     let known = c .before .before .form7 .given .1 in
-    (c .before .before .before .before .before .pre .0, rw known at (c .before .before .before .before .before .pre .1), rw known at (c .before .before .before .before .before .pre .2))
+    let pre = c .before .before .before .before .before .pre in
+    (pre .0, rw known at (pre .1), rw known at (pre .2))
 
 enum-known-form-8 : tie.Need-enum-known-form-8
 enum-known-form-8 c = search needs

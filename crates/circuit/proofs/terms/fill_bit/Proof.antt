@@ -2,10 +2,9 @@
 use mathlib.Core.Path.{refl}
 use borrow.Author.Needs.{needs}
 use lib.Dec.{lit≤}
-use Rattle.circuit.proofs.Appending.{filled, then}
+use Rattle.circuit.proofs.Appending.{filled, three-runs}
 use Rattle.circuit.specs.Rows.{letters, nonzero, terms}
 use Rattle.circuit.specs.Terms.{unsorted}
-use Rattle.circuit.specs.declared.form.Form.the-variants.{Bit}
 use Rattle.circuit.proofs.terms.fill_bit.Statement.{statement}
 use Rattle.circuit.proofs.terms.fill_bit.Tie as tie
 
@@ -15,8 +14,8 @@ push-requires c κs = search needs
 push-requires-2 : tie.Need-push-requires-2
 push-requires-2 c κs = search needs
 
-sub-t12 : tie.Need-sub-t12
-sub-t12 c = search needs
+sub-push : tie.Need-sub-push
+sub-push c = search needs
 
 push-requires-3 : tie.Need-push-requires-3
 push-requires-3 c κs = search needs
@@ -30,11 +29,9 @@ returns c =
     let third = c .before .before in
     let second = third .before .before .before .before in
     let first = second .before .before .before .before in
-    let at = first .before .before .before .args in
-    filled (unsorted (Bit (at .w))) _
-    (then 2 refl (then 1 refl (first .push .ensures) (second .push2 .ensures)) (third .push3 .ensures))
+    filled (three-runs (first .push .ensures) (second .push2 .ensures) (third .push3 .ensures))
     refl refl refl (lit≤ tt)
 
 pub fill-bit-spec : {M : Type 1} → statement M
 fill-bit-spec =
-    tie.close (tie.spec push-requires push-requires-2 sub-t12 push-requires-3 same-length returns)
+    tie.close (tie.spec push-requires push-requires-2 sub-push push-requires-3 same-length returns)

@@ -2,10 +2,9 @@
 use mathlib.Core.Path.{refl}
 use borrow.Author.Needs.{needs}
 use lib.Dec.{lit≤}
-use Rattle.circuit.proofs.Appending.{filled, then}
+use Rattle.circuit.proofs.Appending.{filled, five-runs}
 use Rattle.circuit.specs.Rows.{letters, nonzero, terms}
 use Rattle.circuit.specs.Terms.{unsorted}
-use Rattle.circuit.specs.declared.form.Form.the-variants.{Choice}
 use Rattle.circuit.proofs.terms.fill_choice.Statement.{statement}
 use Rattle.circuit.proofs.terms.fill_choice.Tie as tie
 
@@ -15,8 +14,8 @@ push-requires c κs = search needs
 push-requires-2 : tie.Need-push-requires-2
 push-requires-2 c κs = search needs
 
-sub-t14 : tie.Need-sub-t14
-sub-t14 c = search needs
+sub-push : tie.Need-sub-push
+sub-push c = search needs
 
 push-requires-3 : tie.Need-push-requires-3
 push-requires-3 c κs = search needs
@@ -24,8 +23,8 @@ push-requires-3 c κs = search needs
 push-requires-4 : tie.Need-push-requires-4
 push-requires-4 c κs = search needs
 
-sub-t14-2 : tie.Need-sub-t14-2
-sub-t14-2 c = search needs
+sub-push-2 : tie.Need-sub-push-2
+sub-push-2 c = search needs
 
 push-requires-5 : tie.Need-push-requires-5
 push-requires-5 c κs = search needs
@@ -41,9 +40,8 @@ returns c =
     let third = fourth .before .before .before .before in
     let second = third .before .before .before .before in
     let first = second .before .before .before .before in
-    let at = first .before .before .before .args in
-    filled (unsorted (Choice (at .x) (at .y) (at .z) (at .r))) _
-    (then 4 refl (then 3 refl (then 2 refl (then 1 refl (first .push .ensures) (second .push2 .ensures)) (third .push3 .ensures)) (fourth .push4 .ensures)) (fifth .push5 .ensures))
+    filled
+    (five-runs (first .push .ensures) (second .push2 .ensures) (third .push3 .ensures) (fourth .push4 .ensures) (fifth .push5 .ensures))
     refl refl refl (lit≤ tt)
 
 pub fill-choice-spec : {M : Type 1} → statement M
@@ -52,10 +50,10 @@ fill-choice-spec =
     (tie.spec
     push-requires
     push-requires-2
-    sub-t14
+    sub-push
     push-requires-3
     push-requires-4
-    sub-t14-2
+    sub-push-2
     push-requires-5
     same-length
     returns)

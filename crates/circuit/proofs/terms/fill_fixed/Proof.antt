@@ -2,10 +2,9 @@
 use mathlib.Core.Path.{refl}
 use native.Mathlib.Omega.{arith}
 use borrow.Author.Needs.{needs}
-use Rattle.circuit.proofs.Appending.{filled, then}
+use Rattle.circuit.proofs.Appending.{filled, three-runs}
 use Rattle.circuit.specs.Rows.{letters, nonzero, terms}
 use Rattle.circuit.specs.Terms.{unsorted}
-use Rattle.circuit.specs.declared.form.Form.the-variants.{Fixed}
 use Rattle.circuit.proofs.terms.fill_fixed.Statement.{statement}
 use Rattle.circuit.proofs.terms.fill_fixed.Tie as tie
 
@@ -27,9 +26,7 @@ returns c =
     let third = c .before .before in
     let second = third .before .before .before .before in
     let first = second .before .before .before .before in
-    let at = first .before .before .before .args in
-    filled (unsorted (Fixed (at .w) (at .bit))) _
-    (then 2 refl (then 1 refl (first .push .ensures) (second .push2 .ensures)) (third .push-constant .ensures .2))
+    filled (three-runs (first .push .ensures) (second .push2 .ensures) (third .push-constant .ensures .2))
     refl refl (third .push-constant .ensures .1) (omega (arith, third .push-constant .ensures .0))
 
 pub fill-fixed-spec : {M : Type 1} → statement M

@@ -1,19 +1,19 @@
 -- The nine terms of a majority, in the letters' order.
+use mathlib.Core.List.{[], _∷_}
 use mathlib.Core.Path.{refl}
 use borrow.Author.Needs.{needs}
 use lib.Dec.{lit≤}
-use Rattle.circuit.proofs.Appending.{filled, then}
-use Rattle.circuit.specs.Rows.{letters, nonzero, terms}
+use Rattle.circuit.proofs.Appending.{filled, five-runs}
+use Rattle.circuit.specs.Rows.{_·_, less, letters, nonzero, terms}
 use Rattle.circuit.specs.Terms.{unsorted}
-use Rattle.circuit.specs.declared.form.Form.the-variants.{Majority}
 use Rattle.circuit.proofs.terms.fill_majority.Statement.{statement}
 use Rattle.circuit.proofs.terms.fill_majority.Tie as tie
 
 push-three-requires : tie.Need-push-three-requires
 push-three-requires c κs = search needs
 
-sub-push-three : tie.Need-sub-push-three
-sub-push-three c = search needs
+sub-push : tie.Need-sub-push
+sub-push c = search needs
 
 push-requires : tie.Need-push-requires
 push-requires c κs = search needs
@@ -21,8 +21,8 @@ push-requires c κs = search needs
 push-requires-2 : tie.Need-push-requires-2
 push-requires-2 c κs = search needs
 
-sub-push-three-2 : tie.Need-sub-push-three-2
-sub-push-three-2 c = search needs
+sub-push-three : tie.Need-sub-push-three
+sub-push-three c = search needs
 
 push-three-requires-2 : tie.Need-push-three-requires-2
 push-three-requires-2 c κs = search needs
@@ -42,8 +42,11 @@ returns c =
     let second = third .before .before .before .before in
     let first = second .before .before .before .before in
     let at = first .before .before .before .args in
-    filled (unsorted (Majority (at .x) (at .y) (at .z) (at .r))) _
-    (then 8 refl (then 5 refl (then 4 refl (then 3 refl (first .push-three .ensures) (second .push .ensures)) (third .push2 .ensures)) (fourth .push-three2 .ensures)) (fifth .push3 .ensures))
+    let plus = 1 · at .x ∷ 1 · at .y ∷ 1 · at .z ∷ [] in
+    let minus = less 1 · at .x ∷ less 1 · at .y ∷ less 1 · at .z ∷ [] in
+    filled
+    (five-runs {ts = plus} {ws = minus}
+    (first .push-three .ensures) (second .push .ensures) (third .push2 .ensures) (fourth .push-three2 .ensures) (fifth .push3 .ensures))
     refl refl refl (lit≤ tt)
 
 pub fill-majority-spec : {M : Type 1} → statement M
@@ -51,10 +54,10 @@ fill-majority-spec =
     tie.close
     (tie.spec
     push-three-requires
-    sub-push-three
+    sub-push
     push-requires
     push-requires-2
-    sub-push-three-2
+    sub-push-three
     push-three-requires-2
     push-requires-3
     same-length

@@ -1,19 +1,19 @@
 -- The nine terms of an xor of three, in the letters' order.
+use mathlib.Core.List.{[], _∷_}
 use mathlib.Core.Path.{refl}
 use borrow.Author.Needs.{needs}
 use lib.Dec.{lit≤}
-use Rattle.circuit.proofs.Appending.{filled, then}
-use Rattle.circuit.specs.Rows.{letters, nonzero, terms}
+use Rattle.circuit.proofs.Appending.{filled, five-runs}
+use Rattle.circuit.specs.Rows.{_·_, letters, nonzero, terms}
 use Rattle.circuit.specs.Terms.{unsorted}
-use Rattle.circuit.specs.declared.form.Form.the-variants.{XorOfThree}
 use Rattle.circuit.proofs.terms.fill_xor_of_three.Statement.{statement}
 use Rattle.circuit.proofs.terms.fill_xor_of_three.Tie as tie
 
 push-three-requires : tie.Need-push-three-requires
 push-three-requires c κs = search needs
 
-sub-t11 : tie.Need-sub-t11
-sub-t11 c = search needs
+sub-push : tie.Need-sub-push
+sub-push c = search needs
 
 push-requires : tie.Need-push-requires
 push-requires c κs = search needs
@@ -21,14 +21,14 @@ push-requires c κs = search needs
 push-three-requires-2 : tie.Need-push-three-requires-2
 push-three-requires-2 c κs = search needs
 
-sub-t11-2 : tie.Need-sub-t11-2
-sub-t11-2 c = search needs
+sub-push-2 : tie.Need-sub-push-2
+sub-push-2 c = search needs
 
 push-requires-2 : tie.Need-push-requires-2
 push-requires-2 c κs = search needs
 
-sub-t11-3 : tie.Need-sub-t11-3
-sub-t11-3 c = search needs
+sub-push-3 : tie.Need-sub-push-3
+sub-push-3 c = search needs
 
 push-requires-3 : tie.Need-push-requires-3
 push-requires-3 c κs = search needs
@@ -45,8 +45,10 @@ returns c =
     let second = third .before .before .before .before in
     let first = second .before .before .before .before in
     let at = first .before .before .before .args in
-    filled (unsorted (XorOfThree (at .x) (at .y) (at .z) (at .r))) _
-    (then 8 refl (then 7 refl (then 4 refl (then 3 refl (first .push-three .ensures) (second .push .ensures)) (third .push-three2 .ensures)) (fourth .push2 .ensures)) (fifth .push3 .ensures))
+    let sum = 1 · at .x ∷ 1 · at .y ∷ 1 · at .z ∷ [] in
+    filled
+    (five-runs {ts = sum} {vs = sum}
+    (first .push-three .ensures) (second .push .ensures) (third .push-three2 .ensures) (fourth .push2 .ensures) (fifth .push3 .ensures))
     refl refl refl (lit≤ tt)
 
 pub fill-xor-of-three-spec : {M : Type 1} → statement M
@@ -54,12 +56,12 @@ fill-xor-of-three-spec =
     tie.close
     (tie.spec
     push-three-requires
-    sub-t11
+    sub-push
     push-requires
     push-three-requires-2
-    sub-t11-2
+    sub-push-2
     push-requires-2
-    sub-t11-3
+    sub-push-3
     push-requires-3
     same-length
     returns)

@@ -2,10 +2,9 @@
 use mathlib.Core.Path.{refl}
 use borrow.Author.Needs.{needs}
 use lib.Dec.{lit≤}
-use Rattle.circuit.proofs.Appending.{filled, then}
+use Rattle.circuit.proofs.Appending.{filled, five-runs}
 use Rattle.circuit.specs.Rows.{letters, nonzero, terms}
 use Rattle.circuit.specs.Terms.{unsorted}
-use Rattle.circuit.specs.declared.form.Form.the-variants.{XorOfTwo}
 use Rattle.circuit.proofs.terms.fill_xor_of_two.Statement.{statement}
 use Rattle.circuit.proofs.terms.fill_xor_of_two.Tie as tie
 
@@ -21,8 +20,8 @@ push-requires-3 c κs = search needs
 push-requires-4 : tie.Need-push-requires-4
 push-requires-4 c κs = search needs
 
-sub-t17 : tie.Need-sub-t17
-sub-t17 c = search needs
+sub-push : tie.Need-sub-push
+sub-push c = search needs
 
 push-requires-5 : tie.Need-push-requires-5
 push-requires-5 c κs = search needs
@@ -38,9 +37,8 @@ returns c =
     let third = fourth .before .before .before .before in
     let second = third .before .before .before .before in
     let first = second .before .before .before .before in
-    let at = first .before .before .before .args in
-    filled (unsorted (XorOfTwo (at .x) (at .y) (at .r))) _
-    (then 4 refl (then 3 refl (then 2 refl (then 1 refl (first .push .ensures) (second .push2 .ensures)) (third .push3 .ensures)) (fourth .push4 .ensures)) (fifth .push5 .ensures))
+    filled
+    (five-runs (first .push .ensures) (second .push2 .ensures) (third .push3 .ensures) (fourth .push4 .ensures) (fifth .push5 .ensures))
     refl refl refl (lit≤ tt)
 
 pub fill-xor-of-two-spec : {M : Type 1} → statement M
@@ -51,7 +49,7 @@ fill-xor-of-two-spec =
     push-requires-2
     push-requires-3
     push-requires-4
-    sub-t17
+    sub-push
     push-requires-5
     same-length
     returns)

@@ -31,7 +31,7 @@ same-length : tie.Need-same-length
 same-length c = search needs
 
 returns : tie.Need-returns
-returns c = pushed _ (c .before .args .n) (c .before .args .term) (omega arith)
+returns c = pushed _ (c .args .n) (c .args .wire) (c .args .coefficient) (omega arith)
 
 pub push-spec : {M : Type 1} → statement M
 push-spec =

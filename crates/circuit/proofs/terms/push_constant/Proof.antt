@@ -13,8 +13,9 @@ use Rattle.circuit.proofs.terms.push_constant.Tie as tie
 returns : tie.Need-returns
 unfolding nonzero
 returns c =
-    let none : nonzero (c .before .before .args .k · one ∷ []) ≡ [] = drops (c .before .before .args .k · one) [] (c .if1 .taken) in
-    rw none (lit≤ tt, refl, nothing (c .before .before .args .n) _)
+    let args = c .before .before .args in
+    let none : nonzero (args .k · one ∷ []) ≡ [] = drops (args .k · one) [] (c .if1 .taken) in
+    rw none (lit≤ tt, refl, nothing (args .n) _)
 
 push-requires : tie.Need-push-requires
 push-requires c κs = search needs
@@ -25,8 +26,11 @@ same-length c = search needs
 returns-2 : tie.Need-returns-2
 unfolding nonzero
 returns-2 c =
-    let some : nonzero (c .before .before .before .before .before .before .args .k · one ∷ []) ≡ c .before .before .before .before .before .before .args .k · one ∷ [] = keeps (c .before .before .before .before .before .before .args .k · one) [] (c .before .before .before .before .if1 .left) in
-    rw some (lit≤ tt, refl, c .before .before .push .ensures)
+    let written = c .before .before in
+    let branch = written .before .before in
+    let term = branch .before .before .args .k · one in
+    let some : nonzero (term ∷ []) ≡ term ∷ [] = keeps term [] (branch .if1 .left) in
+    rw some (lit≤ tt, refl, written .push .ensures)
 
 pub push-constant-spec : {M : Type 1} → statement M
 push-constant-spec = tie.close (tie.spec returns push-requires same-length returns-2)

@@ -24,8 +24,8 @@ add-push c = search needs
 wire-past-requires : tie.Need-wire-past-requires Inv-loop μ-loop
 wire-past-requires c κs = search needs
 
-sub-t13 : tie.Need-sub-t13 Inv-loop μ-loop
-sub-t13 c = omega (arith, shr-le (2 ^ 31) (c .before .before .before .loop .i))
+sub-push : tie.Need-sub-push Inv-loop μ-loop
+sub-push c = omega (arith, shr-le (2 ^ 31) (c .before .before .before .loop .i))
 
 push-requires : tie.Need-push-requires Inv-loop μ-loop
 push-requires c κs = search needs
@@ -38,8 +38,12 @@ loop-less c = search needs
 
 loop-again : tie.Need-loop-again Inv-loop μ-loop
 loop-again c =
-    weighed-next less (at (c .before .before .before .before .before .before .before .before .args .r)) _
-    (c .before .before .before .before .before .before .loop .inv) (c .before .before .before .before .before .loop-test .taken) (c .before .before .before .wire-past .ensures) (c .before .before .push .ensures)
+    let written = c .before .before in
+    let wire = written .before in
+    let turn = wire .before .before in
+    let loop = turn .before in
+    weighed-next less (at (loop .before .before .args .r)) _
+    (loop .loop .inv) (turn .loop-test .taken) (wire .wire-past .ensures) (written .push .ensures)
 
 same-length : tie.Need-same-length Inv-loop μ-loop
 same-length c = c .before .loop .inv .written .kept
@@ -56,7 +60,7 @@ push-result-spec =
     loop-holds
     add-push
     wire-past-requires
-    sub-t13
+    sub-push
     push-requires
     add-i
     loop-less

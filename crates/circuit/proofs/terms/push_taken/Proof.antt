@@ -18,8 +18,8 @@ add-push c = search needs
 wire-past-requires : tie.Need-wire-past-requires
 wire-past-requires c κs = search needs
 
-sub-t11 : tie.Need-sub-t11
-sub-t11 c = search needs
+sub-push : tie.Need-sub-push
+sub-push c = search needs
 
 push-requires : tie.Need-push-requires
 push-requires c κs = search needs
@@ -30,8 +30,8 @@ add-push-2 c = search needs
 wire-past-requires-2 : tie.Need-wire-past-requires-2
 wire-past-requires-2 c κs = search needs
 
-sub-t11-2 : tie.Need-sub-t11-2
-sub-t11-2 c = search needs
+sub-push-2 : tie.Need-sub-push-2
+sub-push-2 c = search needs
 
 push-requires-2 : tie.Need-push-requires-2
 push-requires-2 c κs = search needs
@@ -59,11 +59,11 @@ push-taken-spec =
     push-result-requires
     add-push
     wire-past-requires
-    sub-t11
+    sub-push
     push-requires
     add-push-2
     wire-past-requires-2
-    sub-t11-2
+    sub-push-2
     push-requires-2
     same-length
     returns)

@@ -1,7 +1,7 @@
 -- Three terms, one behind the other.
 use mathlib.Core.Path.{refl}
 use borrow.Author.Needs.{needs}
-use Rattle.circuit.proofs.Appending.{then}
+use Rattle.circuit.proofs.Appending.{three-runs}
 use Rattle.circuit.proofs.terms.push_three.Statement.{statement}
 use Rattle.circuit.proofs.terms.push_three.Tie as tie
 
@@ -28,7 +28,7 @@ returns c =
     let third = c .before .before in
     let second = third .before .before .before .before in
     let first = second .before .before .before .before in
-    then _ refl (then _ refl (first .push .ensures) (second .push2 .ensures)) (third .push3 .ensures)
+    three-runs (first .push .ensures) (second .push2 .ensures) (third .push3 .ensures)
 
 pub push-three-spec : {M : Type 1} → statement M
 push-three-spec =

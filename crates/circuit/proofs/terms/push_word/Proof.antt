@@ -33,8 +33,12 @@ loop-less c = search needs
 
 loop-again : tie.Need-loop-again Inv-loop μ-loop
 loop-again c =
-    weighed-next (λ k. k) (wireAt (c .before .before .before .before .before .before .before .before .args .x)) _
-    (c .before .before .before .before .before .before .loop .inv) (c .before .before .before .before .before .loop-test .taken) (c .before .before .before .wire-of-bit .ensures) (c .before .before .push .ensures)
+    let written = c .before .before in
+    let wire = written .before in
+    let turn = wire .before .before in
+    let loop = turn .before in
+    weighed-next (λ k. k) (wireAt (loop .before .before .args .x)) _
+    (loop .loop .inv) (turn .loop-test .taken) (wire .wire-of-bit .ensures) (written .push .ensures)
 
 same-length : tie.Need-same-length Inv-loop μ-loop
 same-length c = c .before .loop .inv .written .kept
