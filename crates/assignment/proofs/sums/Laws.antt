@@ -56,37 +56,55 @@ module _ (bytes terms : List ℕ) (from to : ℕ) where
   unfolding value
   running-none xs ts rest hx ht e = ap (λ n. value (entry bytes) (take n ts) % p) (sym (sub-self from))
 
+  module _ (xs ts : List Term) (rest : List ℕ) (hx : length xs ≡ from) (ht : from + length ts ≡ to) (e : terms ≡ flat (xs ++ ts) ++ rest)
+      (t : ℕ) (l : from ≤ t) (h : t < to) where
+    -- term t of the buffer
+    abbrev term : Term
+    term = getD ts (t - from) none
+
+    in-reach : (i : ℕ) → i < 2 * to → i < length (flat (xs ++ ts))
+    in-reach i l = omega (arith, flat-length (xs ++ ts), length-append xs ts)
+
+    here : getD (xs ++ ts) t none ≡ term
+    here = past xs ts t (omega arith) ∙ ap (λ n. getD ts (t - n) none) hx
+
+    wire-number : getD terms (2 * t) 0 ≡ term .wire .0
+    wire-number =
+        ap (λ ns. getD ns (2 * t) 0) e
+        ∙ List·getD-append (flat (xs ++ ts)) rest 0 (2 * t) (in-reach (2 * t) (omega arith))
+        ∙ flat-wire (xs ++ ts) t
+        ∙ ap (λ u. u .wire .0) here
+
+    coefficient-number : getD terms (2 * t + 1) 0 ≡ term .coefficient
+    coefficient-number =
+        ap (λ ns. getD ns (2 * t + 1) 0) e
+        ∙ List·getD-append (flat (xs ++ ts)) rest 0 (2 * t + 1) (in-reach (2 * t + 1) (omega arith))
+        ∙ flat-coefficient (xs ++ ts) t
+        ∙ ap (λ u. u .coefficient) here
+
+    -- what it adds
+    added : (getD terms (2 * t + 1) 0 * fromBytes 8 bytes (8 * getD terms (2 * t) 0)) % p
+        ≡ (term .coefficient * entry bytes (term .wire .0)) % p
+    unfolding entry
+    added =
+        ap₂ (λ c w. (c * fromBytes 8 bytes (8 * w)) % p) coefficient-number wire-number
+        ∙ sym (mul-mod-mod (term .coefficient) (fromBytes 8 bytes (8 * term .wire .0)) p)
+
+    one-more : value (entry bytes) (take (t + 1 - from) ts) ≡ value (entry bytes) (take (t - from) ts) + term .coefficient * entry bytes (term .wire .0)
+    unfolding value
+    one-more =
+        let next : t + 1 - from ≡ suc (t - from) = omega arith in
+        ap (λ n. value (entry bytes) (take n ts)) next
+        ∙ ap (value (entry bytes)) (take-suc ts (t - from) none (omega arith))
+        ∙ value-append (entry bytes) (take (t - from) ts) _
+        ∙ omega arith
+
   -- one term more, with the number y on its wire
   pub running-next : (t s y x : ℕ) → from ≤ t → t < to → Running t s → y ≡ fromBytes 8 bytes (8 * getD terms (2 * t) 0)
       → x ≡ (getD terms (2 * t + 1) 0 * y) % p → Running (t + 1) ((s + x) % p)
-  unfolding entry value
   running-next t s y x l h running ey ex xs ts rest hx ht e =
-      let k = t - from in
-      let u = getD ts k none in
-      let all : length (xs ++ ts) ≡ to = length-append xs ts ∙ ap (λ n. n + length ts) hx ∙ ht in
-      let here : getD (xs ++ ts) t none ≡ u = past xs ts t (omega arith) ∙ ap (λ n. getD ts (t - n) none) hx in
-      let wire : getD terms (2 * t) 0 ≡ u .wire .0 =
-      ap (λ ns. getD ns (2 * t) 0) e
-      ∙ List·getD-append (flat (xs ++ ts)) rest 0 (2 * t) (omega (arith, flat-length (xs ++ ts)))
-      ∙ flat-wire (xs ++ ts) t
-      ∙ ap (λ v. v .wire .0) here in
-      let coefficient : getD terms (2 * t + 1) 0 ≡ u .coefficient =
-      ap (λ ns. getD ns (2 * t + 1) 0) e
-      ∙ List·getD-append (flat (xs ++ ts)) rest 0 (2 * t + 1) (omega (arith, flat-length (xs ++ ts)))
-      ∙ flat-coefficient (xs ++ ts) t
-      ∙ ap (λ v. v .coefficient) here in
-      let added : x ≡ (u .coefficient * entry bytes (u .wire .0)) % p =
-      ex
-      ∙ ap (λ v. (getD terms (2 * t + 1) 0 * v) % p) ey
-      ∙ ap₂ (λ c w. (c * fromBytes 8 bytes (8 * w)) % p) coefficient wire
-      ∙ sym (mul-mod-mod (u .coefficient) (fromBytes 8 bytes (8 * u .wire .0)) p) in
-      let next : t + 1 - from ≡ suc k = omega arith in
-      let more : value (entry bytes) (take (t + 1 - from) ts) ≡ value (entry bytes) (take k ts) + u .coefficient * entry bytes (u .wire .0) =
-      ap (λ n. value (entry bytes) (take n ts)) next
-      ∙ ap (value (entry bytes)) (take-suc ts k none (omega arith))
-      ∙ value-append (entry bytes) (take k ts) _
-      ∙ omega arith in
-      omega (arith, running xs ts rest hx ht e)
+      let adds = ex ∙ ap (λ v. (getD terms (2 * t + 1) 0 * v) % p) ey ∙ added xs ts rest hx ht e t l h in
+      omega (arith, adds, running xs ts rest hx ht e, one-more xs ts rest hx ht e t l h)
 
   pub running-all : (t s : ℕ) → to ≤ t → Running t s → (xs ts : List Term) (rest : List ℕ) → length xs ≡ from → from + length ts ≡ to
       → terms ≡ flat (xs ++ ts) ++ rest → s ≡ value (entry bytes) ts % p
