@@ -1,5 +1,6 @@
 pub mod Assignment
 pub mod Check
 pub mod Demand3
+pub mod Lent
 pub mod Produce
 pub mod Wrote

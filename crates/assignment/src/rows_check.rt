@@ -8,16 +8,15 @@ ghost use Rattle.circuit.specs.Circuit.{rowAt};
 ghost use Rattle.circuit.specs.Layout.{wireCount};
 ghost use Rattle.circuit.specs.Places.{rowCount};
 use crate::check::CheckAnswer;
-use crate::sums::part_product;
-use crate::sums::part_value;
+use crate::sums::satisfied;
 use circuit::place::RowNumber;
 use circuit::place::next_place;
 use circuit::place::place_of;
 use circuit::place::row_count;
 use circuit::row::place_terms;
 
-// The lowest row of a record of so many bits that is not satisfied, if there is one: the rows outside, and inside the terms of
-// each part of a row.
+// The lowest row of a record of so many bits that is not satisfied, if there is one: the rows outside, and the
+// terms of each row inside, in `satisfied`.
 pub fn lowest_unsatisfied(bits: u64, assignment: &[u8]) -> CheckAnswer
     requires { ⌜ (bits ≤ 8127) × (length (now assignment) ≡ 8 * wireCount bits) ⌝ }
     ensures { λ r. ⌜ r ≡ lowest (entry (now (assignment .entry))) (rowAt bits) 0 (rowCount bits) ⌝ }
@@ -29,12 +28,7 @@ pub fn lowest_unsatisfied(bits: u64, assignment: &[u8]) -> CheckAnswer
     'rows: loop {
         let step = place.step;
         let counts = place_terms(bits, place.block, step, place.index, place.line, &mut terms);
-        let b = counts.a;
-        let c = b + counts.b;
-        let value_a = part_value(assignment, &terms, 0, b);
-        let value_b = part_value(assignment, &terms, b, c);
-        let value_c = part_value(assignment, &terms, c, c + counts.c);
-        if part_product(value_a, value_b) != value_c {
+        if !satisfied(assignment, &terms, counts) {
             break 'rows CheckAnswer::Unsatisfied(RowNumber(k));
         }
         if k + 1 == count {

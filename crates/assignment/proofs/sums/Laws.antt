@@ -1,20 +1,25 @@
 -- The weighted sum of a part of a row, term by term. A buffer holds two numbers a term; term t of it adds its coefficient times
--- what its wire reads as, and a sum that is kept as a residue comes to the same modulo p.
+-- what its wire reads as, and a sum that is kept as a residue comes to the same modulo p. Where the buffer begins with the terms
+-- of A, then B, then C, the three sums tell whether the row is satisfied.
 use mathlib.Core.List.{List, [], _∷_, _++_}
 use mathlib.Core.Path.{_≡_, _∙_, ap, ap₂, refl, sym}
 use Prim.Native.Nat.{ℕ, zero, suc, _+_, _-_, _*_, _%_, _≤_, _<_}
-use native.Mathlib.Nat.{sub-self}
+use native.Mathlib.Nat.{sub-self, zero-add}
 use native.Mathlib.Omega.{arith}
-use lib.ListN.{List·getD-append, getD, length, length-append, take}
+use lib.Dec.{eqb}
+use lib.ListN.{List·getD-append, drop, getD, length, length-append, take, take-append-drop}
 use lib.Seq.{getD-append-add, take-all, take-suc}
 use Rattle.assignment.specs.Assignment.{entry, fromBytes}
-use Rattle.circuit.proofs.Flat.{flat-length}
+use Rattle.assignment.specs.Check.{holds}
+use Rattle.assignment.specs.Lent.{Lent}
+use Rattle.circuit.proofs.Flat.{flat-length, over}
 use Rattle.circuit.proofs.Values.{value-append}
-use Rattle.circuit.specs.Rows.{_·_, value}
-use Rattle.circuit.specs.Terms.{flat}
+use Rattle.circuit.specs.Rows.{Row, _·_, terms, value}
+use Rattle.circuit.specs.Terms.{Filled, flat}
 use Rattle.circuit.specs.Wires.{one}
 use Rattle.circuit.specs.declared.form.Term.{Term}
-use Rattle.field.proofs.Congruence.{mul-mod-mod}
+use Rattle.circuit.specs.declared.terms.Counts.{Counts}
+use Rattle.field.proofs.Congruence.{mul-mod, mul-mod-mod}
 use Rattle.field.specs.Field.{p}
 
 -- what stands where there is no term
@@ -110,3 +115,36 @@ module _ (bytes terms : List ℕ) (from to : ℕ) where
       → terms ≡ flat (xs ++ ts) ++ rest → s ≡ value (entry bytes) ts % p
   running-all t s l running xs ts rest hx ht e =
       running xs ts rest hx ht e ∙ ap (λ us. value (entry bytes) us % p) (take-all (t - from) ts (omega arith))
+
+pub fewer : {n : ℕ} {terms bytes : List ℕ} (m : ℕ) → m ≤ n → Lent n terms bytes → Lent m terms bytes
+fewer m l h =
+    record {
+      room = omega (arith, h .room);
+      wires = λ t k. h .wires t (omega arith);
+      coefficients = λ t k. h .coefficients t (omega arith);
+    }
+
+-- A row whose terms are filled in, with what its parts come to.
+module _ (bytes after before : List ℕ) (row : Row) (r : Counts) (h : Filled row r before after) where
+  -- what is known of the value of the terms from `from` to `to`
+  abbrev Value : ℕ → ℕ → ℕ → Type 0
+  Value from to v =
+      (xs ts : List Term) (rest : List ℕ) → length xs ≡ from → from + length ts ≡ to → after ≡ flat (xs ++ ts) ++ rest
+      → v ≡ value (entry bytes) ts % p
+
+  pub judged : (a b c : ℕ) → Value 0 (r .a) a → Value (r .a) (r .a + r .b) b → Value (r .a + r .b) (r .a + r .b + r .c) c
+      → eqb ((a * b) % p) c ≡ holds (entry bytes) row
+  unfolding holds terms
+  judged a b c va vb vc =
+      let A = row .A in
+      let B = row .B in
+      let C = row .C in
+      let end = 2 * (r .a + r .b + r .c) in
+      let rest = drop end after in
+      let whole = sym (take-append-drop end after) ∙ ap (λ ns. ns ++ rest) (h .front) in
+      let inner = whole ∙ over (A ++ B) C rest in
+      let ea =
+      va [] A (flat B ++ (flat C ++ rest)) refl (zero-add (length A) ∙ sym (h .a)) (inner ∙ over A B (flat C ++ rest)) in
+      let eb = vb A B (flat C ++ rest) (sym (h .a)) (ap (λ i. r .a + i) (sym (h .b))) inner in
+      let ec = vc (A ++ B) C rest (omega (arith, h .a, h .b, length-append A B)) (ap (λ i. r .a + r .b + i) (sym (h .c))) whole in
+      ap₂ eqb (ap₂ (λ x y. (x * y) % p) ea eb ∙ sym (mul-mod (value (entry bytes) A) (value (entry bytes) B) p)) ec

@@ -1,17 +1,17 @@
 -- Before each turn all rows below row k hold, so the lowest failing row of all is that of the rows from k on; and `place` is the
 -- place of row k, whose terms are held against the assignment.
 use mathlib.Core.Path.{_≡_, _∙_, ap, refl, subst, sym}
+use Prim.Native.Nat.{_-_, _<_}
 use native.Mathlib.Nat.{sub-zero}
-use Prim.Native.Nat.{_-_, _*_, _≤_, _<_}
 use native.Mathlib.Omega.{arith}
 use borrow.Author.Needs.{needs}
-use borrow.Author.Tests.{eq-eqb, ne-eqb}
+use borrow.Author.Tests.{not-false, not-true}
 use lib.ListN.{length}
 use Rattle.assignment.specs.Assignment.{entry}
 use Rattle.assignment.specs.Check.{lowest}
-use Rattle.assignment.proofs.rows_check.Laws.{lent, lowest-end, lowest-fails, lowest-holds, row-fails, row-holds}
+use Rattle.assignment.proofs.rows_check.Laws.{judged, lent, lowest-end, lowest-fails, lowest-holds}
 use Rattle.circuit.proofs.PlaceRange.{in-record}
-use Rattle.circuit.specs.Circuit.{formAt, rowAt}
+use Rattle.circuit.specs.Circuit.{rowAt}
 use Rattle.circuit.specs.Places.{placeAt, rowCount}
 use Rattle.circuit.specs.Ranges.{InRecord}
 use Rattle.assignment.proofs.rows_check.lowest_unsatisfied.Statement.{statement}
@@ -44,49 +44,23 @@ place-terms-requires c κs =
     let inv = c .before .rows .inv in
     (omega arith, subst (InRecord _) (sym (inv .2)) (in-record _ _ (omega arith)), omega (arith, inv .1))
 
-add-c : tie.Need-add-c Inv-rows μ-rows
-add-c c = search needs
+slice-aggregate-satisfied : tie.Need-slice-aggregate-satisfied Inv-rows μ-rows
+slice-aggregate-satisfied c = search needs
 
-slice-aggregate-part-value : tie.Need-slice-aggregate-part-value Inv-rows μ-rows
-slice-aggregate-part-value c = search needs
-
-part-value-requires : tie.Need-part-value-requires Inv-rows μ-rows
-part-value-requires c κs =
-    let filled = c .before .before .before in
-    let inv = filled .before .before .rows .inv in
-    lent _ _ (omega arith) _ (inv .2) _ _ _ (filled .place-terms .ensures) _ (filled .before .before .before .before .before .before .pre .1) (inv .1) _ _ (omega arith) (omega arith)
-
-slice-aggregate-part-value-2 : tie.Need-slice-aggregate-part-value-2 Inv-rows μ-rows
-slice-aggregate-part-value-2 c = search needs
-
-part-value-requires-2 : tie.Need-part-value-requires-2 Inv-rows μ-rows
-part-value-requires-2 c κs =
-    let filled = c .before .before .before .before .before in
-    let inv = filled .before .before .rows .inv in
-    lent _ _ (omega arith) _ (inv .2) _ _ _ (filled .place-terms .ensures) _ (filled .before .before .before .before .before .before .pre .1) (inv .1) _ _ (omega arith) (omega arith)
-
-slice-aggregate-part-value-3 : tie.Need-slice-aggregate-part-value-3 Inv-rows μ-rows
-slice-aggregate-part-value-3 c = search needs
-
-add-part-value : tie.Need-add-part-value Inv-rows μ-rows
-add-part-value c = search needs
-
-part-value-requires-3 : tie.Need-part-value-requires-3 Inv-rows μ-rows
-part-value-requires-3 c κs =
-    let filled = c .before .before .before .before .before .before .before .before in
-    let inv = filled .before .before .rows .inv in
-    lent _ _ (omega arith) _ (inv .2) _ _ _ (filled .place-terms .ensures) _ (filled .before .before .before .before .before .before .pre .1) (inv .1) _ _ (omega arith) (omega arith)
-
-part-product-requires : tie.Need-part-product-requires Inv-rows μ-rows
-part-product-requires c κs = search needs
+satisfied-requires : tie.Need-satisfied-requires Inv-rows μ-rows
+satisfied-requires c κs =
+    let filled = c .before .before in
+    let turn = filled .before .before in
+    let inv = turn .rows .inv in
+    lent _ _ _ (inv .2) _ _ _ (filled .place-terms .ensures) (omega arith) (inv .1) _ (turn .before .before .before .before .pre .1)
 
 add-if2 : tie.Need-add-if2 Inv-rows μ-rows
 add-if2 c = search needs
 
 next-place-requires : tie.Need-next-place-requires Inv-rows μ-rows
 next-place-requires c κs =
-    let turn = c .before .before .before .before .before .before .before .before .before .before .before .before .before .before in
-    (turn .before .before .before .before .pre .0, omega (arith, turn .rows .inv .0, turn .before .before .row-count .ensures), turn .rows .inv .2)
+    let turn = c .before .before .before .before .before .before .before in
+    (omega arith, omega arith, turn .rows .inv .2)
 
 add-k : tie.Need-add-k Inv-rows μ-rows
 add-k c = search needs
@@ -96,52 +70,37 @@ rows-less c = omega arith
 
 rows-again : tie.Need-rows-again Inv-rows μ-rows
 rows-again c =
-    let product = c .before .before .before in
-    let third = product .before in
-    let second = third .before .before .before in
-    let first = second .before .before in
-    let filled = first .before .before .before .before in
-    let turn = filled .before .before in
-    let inv = turn .rows .inv in
-    let holds =
-    row-holds _ _ (omega arith) _ (inv .2) _ _ _ (filled .place-terms .ensures) _ _ _ _ (first .part-value .ensures .1) (second .part-value2 .ensures .1)
-    (third .part-value3 .ensures .1) _ (product .part-product .ensures) (c .before .before .if1 .left) in (
+    let tested = c .before .before .before in
+    let filled = tested .before .before .before in
+    let inv = filled .before .before .rows .inv in
+    let row = judged _ _ _ (inv .2) _ _ _ (filled .place-terms .ensures) _ _ (tested .satisfied .ensures) in (
       omega arith,
       filled .place-terms .ensures .kept ∙ inv .1,
       c .next-place .ensures,
-      inv .3 ∙ lowest-holds _ _ _ _ (omega arith) holds,
+      inv .3 ∙ lowest-holds _ _ _ _ (omega arith) (sym row ∙ not-false _ (c .before .before .if1 .left)),
     )
 
 returns : tie.Need-returns Inv-rows μ-rows
 returns c =
-    let product = c .before in
-    let third = product .before in
-    let second = third .before .before .before in
-    let first = second .before .before in
-    let filled = first .before .before .before .before in
+    let tested = c .before in
+    let filled = tested .before .before .before in
     let turn = filled .before .before in
-    let inv = turn .rows .inv in
-    let fails =
-    row-fails _ _ (omega arith) _ (inv .2) _ _ _ (filled .place-terms .ensures) _ _ _ _ (first .part-value .ensures .1) (second .part-value2 .ensures .1)
-    (third .part-value3 .ensures .1) _ (product .part-product .ensures) (c .if1 .taken) in
-    sym (ap (lowest _ _ 0) (sym (turn .before .before .row-count .ensures)) ∙ inv .3 ∙ lowest-fails _ _ _ _ (omega arith) fails)
+    let row = judged _ _ _ (turn .rows .inv .2) _ _ _ (filled .place-terms .ensures) _ _ (tested .satisfied .ensures) in
+    sym
+    (ap (lowest _ _ 0) (sym (turn .before .before .row-count .ensures))
+    ∙ turn .rows .inv .3
+    ∙ lowest-fails _ _ _ _ (omega arith) (sym row ∙ not-true _ (c .if1 .taken)))
 
 returns-2 : tie.Need-returns-2 Inv-rows μ-rows
 returns-2 c =
-    let product = c .before .before in
-    let third = product .before in
-    let second = third .before .before .before in
-    let first = second .before .before in
-    let filled = first .before .before .before .before in
+    let tested = c .before .before in
+    let filled = tested .before .before .before in
     let turn = filled .before .before in
-    let inv = turn .rows .inv in
-    let holds =
-    row-holds _ _ (omega arith) _ (inv .2) _ _ _ (filled .place-terms .ensures) _ _ _ _ (first .part-value .ensures .1) (second .part-value2 .ensures .1)
-    (third .part-value3 .ensures .1) _ (product .part-product .ensures) (c .before .if1 .left) in
+    let row = judged _ _ _ (turn .rows .inv .2) _ _ _ (filled .place-terms .ensures) _ _ (tested .satisfied .ensures) in
     sym
     (ap (lowest _ _ 0) (sym (turn .before .before .row-count .ensures))
-    ∙ inv .3
-    ∙ lowest-holds _ _ _ _ (omega arith) holds
+    ∙ turn .rows .inv .3
+    ∙ lowest-holds _ _ _ _ (omega arith) (sym row ∙ not-false _ (c .before .if1 .left))
     ∙ lowest-end _ _ _ _ (c .if2 .taken))
 
 pub lowest-unsatisfied-spec : {M : Type 1} → statement M
@@ -155,15 +114,8 @@ lowest-unsatisfied-spec =
     rows-holds
     slice-aggregate-place-terms
     place-terms-requires
-    add-c
-    slice-aggregate-part-value
-    part-value-requires
-    slice-aggregate-part-value-2
-    part-value-requires-2
-    slice-aggregate-part-value-3
-    add-part-value
-    part-value-requires-3
-    part-product-requires
+    slice-aggregate-satisfied
+    satisfied-requires
     add-if2
     next-place-requires
     add-k

@@ -29,7 +29,7 @@ shared-slice-read-sum c = search needs
 raw-requires : tie.Need-raw-requires Inv-loop μ-loop
 raw-requires c κs =
     let turn = c .before .before in
-    turn .before .before .before .pre .2 (turn .loop .t) (omega arith) .0
+    turn .before .before .before .pre .1 .wires (turn .loop .t) (omega arith)
 
 mul-times : tie.Need-mul-times Inv-loop μ-loop
 mul-times c = search needs
@@ -46,7 +46,7 @@ shared-slice-read-times c = search needs
 times-requires : tie.Need-times-requires Inv-loop μ-loop
 times-requires c κs =
     let turn = c .before .before .before .before in
-    turn .before .before .before .pre .2 (turn .loop .t) (omega arith) .1
+    turn .before .before .before .pre .1 .coefficients (turn .loop .t) (omega arith)
 
 sum-requires : tie.Need-sum-requires Inv-loop μ-loop
 sum-requires c κs = search needs
