@@ -1,7 +1,8 @@
 //! An outside judge for the paper "SM3 record rows over the prime 2^61 - 1".
 //!
-//! Everything here was written from that paper alone. Sentences of the paper
-//! are quoted in the comments beside the code that follows them.
+//! Everything here was written from that paper alone, but `steps`, whose
+//! program has its format from docs/STEPS.md. Sentences of the paper are
+//! quoted in the comments beside the code that follows them.
 //!
 //! * `sm3`: the hash, and every word it computes on the way ("SM3 as used").
 //! * `length`: lengths in range and the counts of blocks, wires and rows.
@@ -12,6 +13,7 @@
 //! * `check`: the check of an assignment against a digest.
 //! * `operations`: digest, row and produce on lent buffers.
 //! * `listing`: the input line and the output of the program `rows`.
+//! * `steps`: the output of the program `steps`, which step a row stands for.
 //! * `refusal`: the nine refusals. `field`: numbers modulo p.
 
 #![forbid(unsafe_code)]
@@ -26,3 +28,4 @@ pub mod operations;
 pub mod refusal;
 pub mod rows;
 pub mod sm3;
+pub mod steps;

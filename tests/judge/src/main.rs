@@ -1,5 +1,6 @@
 //! `judge rows`: reads the line of the program `rows` on standard input and
 //! prints what that program must print.
+//! `judge steps`: the same for the program `steps`.
 //! `judge digest`: the digest of the bytes on standard input, in hexadecimal.
 //! `judge counts L`: blocks, wires and rows of a record length.
 
@@ -10,8 +11,9 @@ use judge::length::Length;
 use judge::listing::{listing, refused};
 use judge::operations;
 use judge::refusal::Refusal;
+use judge::steps;
 
-const USAGE: &str = "usage: judge rows | judge digest | judge counts L";
+const USAGE: &str = "usage: judge rows | judge steps | judge digest | judge counts L";
 
 fn standard_input() -> io::Result<Vec<u8>> {
     let mut bytes = Vec::new();
@@ -37,6 +39,7 @@ fn answer(arguments: &[String]) -> io::Result<Option<String>> {
     let words: Vec<&str> = arguments.iter().map(String::as_str).collect();
     let text = match words[..] {
         ["rows"] => listing(&standard_input()?),
+        ["steps"] => steps::listing(&standard_input()?),
         ["digest"] => digest_text(&standard_input()?).unwrap_or_else(refused),
         ["counts", length] => match length.parse() {
             Ok(length) => counts_text(length).unwrap_or_else(refused),

@@ -1,4 +1,5 @@
-//! The program `rows`: its line and what it prints.
+//! The program `rows`: its line, which the program `steps` reads too, and what
+//! it prints.
 
 mod support;
 
@@ -6,7 +7,7 @@ use std::io::Write;
 use std::process::{Command, Stdio};
 
 use judge::listing::listing;
-use judge::rows;
+use judge::{rows, steps};
 use support::length;
 
 const HEADER: &str = "row,part,wire,coefficient\n";
@@ -17,6 +18,12 @@ fn the_whole_example() {
                     0,A,257,1\n0,B,0,1\n\
                     1,A,258,1\n1,B,0,1\n1,C,0,1\n";
     assert_eq!(listing(b"0,0,2\n"), expected);
+}
+
+/// `rows` and `steps` refuse "the same lines in the same way".
+fn assert_refused(line: &[u8], refusal: &str) {
+    assert_eq!(listing(line), refusal, "{}", line.escape_ascii());
+    assert_eq!(steps::listing(line), refusal, "{}", line.escape_ascii());
 }
 
 #[test]
@@ -56,7 +63,7 @@ fn lines_that_are_refusal_1() {
         b"01,0,2\n",
     ];
     for line in lines {
-        assert_eq!(listing(line), "refused,1\n", "{}", line.escape_ascii());
+        assert_refused(line, "refused,1\n");
     }
 }
 
@@ -67,7 +74,7 @@ fn refusals_2_and_3() {
         "999999999,999999999,999999999\n",
         "1016,999999999,0\n",
     ] {
-        assert_eq!(listing(line.as_bytes()), "refused,2\n", "{line}");
+        assert_refused(line.as_bytes(), "refused,2\n");
     }
     for line in [
         "0,32832,1\n",
@@ -77,7 +84,7 @@ fn refusals_2_and_3() {
         "1015,517632,1\n",
         "1015,999999999,999999999\n",
     ] {
-        assert_eq!(listing(line.as_bytes()), "refused,3\n", "{line}");
+        assert_refused(line.as_bytes(), "refused,3\n");
     }
 }
 
@@ -129,6 +136,8 @@ fn run(arguments: &[&str], input: &[u8]) -> String {
 fn the_binary() {
     assert_eq!(run(&["rows"], b"0,0,2\n"), listing(b"0,0,2\n"));
     assert_eq!(run(&["rows"], b"0,0,2"), "refused,1\n");
+    assert_eq!(run(&["steps"], b"1,255,4\n"), steps::listing(b"1,255,4\n"));
+    assert_eq!(run(&["steps"], b"1,255,4"), "refused,1\n");
     let abc = "66c7f0f462eeedd9d1f2d46bdc10e4e24167c4875cf2f7a2297da02b8f4ba8e0\n";
     assert_eq!(run(&["digest"], b"abc"), abc);
     assert_eq!(run(&["digest"], &[0; 1016]), "refused,2\n");
