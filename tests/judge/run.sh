@@ -5,8 +5,9 @@
 #   tests/judge/run.sh --full [--seed N]
 #   tests/judge/run.sh --soak MINUTES [--seed N]
 #
-# SM3ROWS_LIB names the archive; without it, it is the one that `rt staticlib sm3rows` writes. ROWS_PROGRAM names the
-# program `rows`; without it, it is target/bin/rows, and where that is missing the program is left out.
+# SM3ROWS_LIB names the archive; without it, it is the one that `rt staticlib sm3rows` writes. ROWS_PROGRAM and
+# STEPS_PROGRAM name the programs `rows` and `steps`; without them, they are target/bin/rows and target/bin/steps, and a
+# program that is missing there is left out.
 set -eu
 
 root=$(cd "$(dirname "$0")/../.." && pwd)
@@ -26,6 +27,8 @@ case " $* " in
 *" --full "* | *" --soak "*) limit=7200 ;;
 *) limit=300 ;;
 esac
-program=${ROWS_PROGRAM:-$root/target/bin/rows}
-[ -x "$program" ] && set -- "$@" --program "$program"
+rows=${ROWS_PROGRAM:-$root/target/bin/rows}
+[ -x "$rows" ] && set -- "$@" --rows "$rows"
+steps=${STEPS_PROGRAM:-$root/target/bin/steps}
+[ -x "$steps" ] && set -- "$@" --steps "$steps"
 exec timeout "$limit" "$CARGO_TARGET_DIR/release/compare" "$@"

@@ -1,6 +1,7 @@
-//! Compares the C library libsm3rows.a with the judge and with OpenSSL.
+//! Compares the C library libsm3rows.a with the judge and with OpenSSL, and
+//! the programs `rows` and `steps`, where they are given, with the judge.
 //!
-//! `compare [--short | --full] [--seed N] [--threads N] [--program FILE]`
+//! `compare [--short | --full] [--seed N] [--threads N] [--rows FILE] [--steps FILE]`
 //! `compare --soak MINUTES [--seed N]`
 //!
 //! Leaves with 0 when nothing differs, with 1 when something does, with 2
@@ -32,7 +33,8 @@ use calls::Calls;
 use plan::{Amounts, Job};
 use tally::{Tally, TOLD};
 
-const USAGE: &str = "usage: compare [--short | --full] [--seed N] [--threads N] [--program FILE]
+const USAGE: &str =
+    "usage: compare [--short | --full] [--seed N] [--threads N] [--rows FILE] [--steps FILE]
        compare --soak MINUTES [--seed N]";
 
 struct Options {
@@ -40,7 +42,8 @@ struct Options {
     soak: Option<f64>,
     seed: u64,
     threads: usize,
-    program: Option<PathBuf>,
+    rows: Option<PathBuf>,
+    steps: Option<PathBuf>,
 }
 
 fn options(arguments: &[String]) -> Option<Options> {
@@ -49,7 +52,8 @@ fn options(arguments: &[String]) -> Option<Options> {
         soak: None,
         seed: 1,
         threads: thread::available_parallelism().map_or(1, |n| n.get()),
-        program: None,
+        rows: None,
+        steps: None,
     };
     let mut words = arguments.iter().map(String::as_str);
     while let Some(word) = words.next() {
@@ -59,7 +63,8 @@ fn options(arguments: &[String]) -> Option<Options> {
             "--soak" => options.soak = Some(words.next()?.parse().ok()?),
             "--seed" => options.seed = words.next()?.parse().ok()?,
             "--threads" => options.threads = words.next()?.parse().ok()?,
-            "--program" => options.program = Some(words.next()?.into()),
+            "--rows" => options.rows = Some(words.next()?.into()),
+            "--steps" => options.steps = Some(words.next()?.into()),
             _ => return None,
         }
     }
@@ -115,7 +120,7 @@ fn report(options: Options) -> bool {
     let (seed, threads) = (options.seed, options.threads);
     println!("{form} comparison, seed {seed}, {threads} threads");
     let begin = Instant::now();
-    let jobs = plan::jobs(&amounts, seed, options.program);
+    let jobs = plan::jobs(&amounts, seed, options.rows, options.steps);
     let tally = compare(&jobs, seed, threads);
     println!("{tally}");
     for difference in tally.differences.iter().take(TOLD) {

@@ -7,7 +7,8 @@ use judge::length::LONGEST;
 
 use crate::calls::Calls;
 use crate::claim::Ground;
-use crate::{program, refusals, sections};
+use crate::program::Program;
+use crate::{refusals, sections};
 
 /// How much of everything.
 pub struct Amounts {
@@ -20,7 +21,7 @@ pub struct Amounts {
     length_step: u64,
     sampled_rows: usize,
     some_damages: usize,
-    /// Lengths with whole tables.
+    /// Lengths with whole tables, of the rows and of their steps.
     tables: Vec<u64>,
     /// Lengths with every way of damage, and how often.
     damaged: Vec<(u64, usize)>,
@@ -29,6 +30,7 @@ pub struct Amounts {
     several_wires: usize,
     /// Lengths with all refusals, and how often each choice of faults.
     refused: Vec<(u64, usize)>,
+    /// Right lines, and as many damaged ones, to each program.
     lines: usize,
 }
 
@@ -101,9 +103,19 @@ fn beside_block_end(length: u64) -> bool {
     matches!(length % 64, 55 | 56) || length == LONGEST
 }
 
+/// Lengths with rows and checks, and with steps where the record ends.
+fn sampled(amounts: &Amounts, seed: u64, length: u64) -> bool {
+    length % amounts.length_step == seed % amounts.length_step || beside_block_end(length)
+}
+
 /// All jobs. Those that take long stand first, so that no thread is left
 /// alone with one at the end.
-pub fn jobs(amounts: &Amounts, seed: u64, rows_program: Option<PathBuf>) -> Vec<Job> {
+pub fn jobs(
+    amounts: &Amounts,
+    seed: u64,
+    rows_program: Option<PathBuf>,
+    steps_program: Option<PathBuf>,
+) -> Vec<Job> {
     let mut jobs = Vec::new();
     for &length in amounts.tables.iter().rev() {
         jobs.push(job(
@@ -140,14 +152,38 @@ pub fn jobs(amounts: &Amounts, seed: u64, rows_program: Option<PathBuf>) -> Vec<
             },
         ));
     }
-    if let Some(path) = rows_program {
-        let count = amounts.lines;
+    if let Some(file) = rows_program {
+        let (program, count) = (Program::rows(file), amounts.lines);
         jobs.push(job(String::from("the program rows"), move |calls| {
-            program::program(calls, &path, count);
+            program.lines(calls, count);
         }));
     }
     length_jobs(&mut jobs, amounts, seed);
+    if let Some(file) = steps_program {
+        steps_jobs(&mut jobs, amounts, seed, &Program::steps(file));
+    }
     jobs
+}
+
+/// The program `steps`: lines as for `rows`, all rows of some lengths, and
+/// the block bits where the record ends at the sampled lengths. They stand
+/// last, so that the other jobs have the same random numbers without them.
+fn steps_jobs(jobs: &mut Vec<Job>, amounts: &Amounts, seed: u64, program: &Program) {
+    for &length in amounts.tables.iter().rev() {
+        let program = program.clone();
+        jobs.push(job(format!("all steps of length {length}"), move |calls| {
+            program.all_rows(calls, length);
+        }));
+    }
+    let (lines, count) = (program.clone(), amounts.lines);
+    jobs.push(job(String::from("the program steps"), move |calls| {
+        lines.lines(calls, count);
+    }));
+    for length in (0..=LONGEST).filter(|&length| sampled(amounts, seed, length)) {
+        let program = program.clone();
+        let name = format!("steps where a record of {length} bytes ends");
+        jobs.push(job(name, move |calls| program.record_end(calls, length)));
+    }
 }
 
 /// Wires of one length turned over, some hundreds a job.
@@ -181,13 +217,12 @@ fn length_jobs(jobs: &mut Vec<Job>, amounts: &Amounts, seed: u64) {
         digests,
         produced,
         block_bit_claims,
-        length_step,
         sampled_rows,
         some_damages,
         ..
     } = *amounts;
     for length in (0..=LONGEST).rev() {
-        let rows = length % length_step == seed % length_step || beside_block_end(length);
+        let rows = sampled(amounts, seed, length);
         jobs.push(job(format!("length {length}"), move |calls| {
             sections::digests(calls, length, digests);
             sections::produced(calls, length, produced);

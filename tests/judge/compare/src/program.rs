@@ -1,15 +1,28 @@
-//! The program `rows`, by its standard input and output: the parser and the
-//! listing. Compared where the program is given.
+//! The programs `rows` and `steps`, by their standard input and output: the
+//! parser, which is the same for both, and the listings. A program is compared
+//! where it is given.
 
 use std::io::Write;
-use std::path::Path;
+use std::path::{Path, PathBuf};
 use std::process::{Command, Stdio};
 
 use judge::length::Length;
-use judge::listing::listing;
+use judge::{listing, steps};
 
 use crate::calls::Calls;
 use crate::random::Random;
+use crate::sections::{BLOCK_ROWS, START_ROWS};
+
+/// A program, and what the judge has it print for a line.
+#[derive(Clone)]
+pub struct Program {
+    name: &'static str,
+    file: PathBuf,
+    listing: fn(&[u8]) -> String,
+    /// What its lines are counted as, those given and those printed.
+    given: &'static str,
+    printed: &'static str,
+}
 
 /// Lines that meet one clause each of the line's rule, and its figures.
 const LINES: [&str; 36] = [
@@ -63,6 +76,20 @@ fn run(program: &Path, input: &[u8]) -> std::io::Result<Vec<u8>> {
     Ok(child.wait_with_output()?.stdout)
 }
 
+/// The first line in which two texts differ, told; none where they are equal.
+fn first_difference(judged: &str, printed: &str) -> Option<String> {
+    if judged == printed {
+        return None;
+    }
+    let (mut ours, mut theirs) = (judged.split('\n'), printed.split('\n'));
+    loop {
+        let (our, their) = (ours.next(), theirs.next());
+        if our != their {
+            return Some(format!("the judge prints {our:?}, the program {their:?}"));
+        }
+    }
+}
+
 /// A right line of few rows.
 fn right_line(random: &mut Random) -> Vec<u8> {
     let length = random.below(1016) as u64;
@@ -88,23 +115,70 @@ fn damaged_line(random: &mut Random) -> Vec<u8> {
     line
 }
 
-/// The fixed lines and so many random ones.
-pub fn program(calls: &mut Calls, path: &Path, count: usize) {
-    let mut lines: Vec<Vec<u8>> = LINES.iter().map(|line| line.as_bytes().to_vec()).collect();
-    lines.push(vec![b'1'; 100_000]);
-    for _ in 0..count {
-        lines.push(right_line(&mut calls.random));
-        lines.push(damaged_line(&mut calls.random));
-    }
-    for line in lines {
-        let shown = String::from_utf8_lossy(&line[..line.len().min(60)]).into_owned();
-        match run(path, &line) {
-            Ok(printed) if printed == listing(&line).as_bytes() => {}
-            Ok(_) => calls
-                .tally
-                .difference(format!("rows, line {shown:?}: the judge prints otherwise")),
-            Err(error) => calls.tally.difference(format!("rows: {error}")),
+impl Program {
+    pub fn rows(file: PathBuf) -> Program {
+        Program {
+            name: "rows",
+            file,
+            listing: listing::listing,
+            given: "lines to the program rows",
+            printed: "lines that the program rows printed",
         }
-        calls.tally.count("lines to the program rows", 1);
+    }
+
+    pub fn steps(file: PathBuf) -> Program {
+        Program {
+            name: "steps",
+            file,
+            listing: steps::listing,
+            given: "lines to the program steps",
+            printed: "lines that the program steps printed",
+        }
+    }
+
+    /// One line, to the program and to the judge.
+    fn line(&self, calls: &mut Calls, line: &[u8]) {
+        let judged = (self.listing)(line);
+        let told = match run(&self.file, line) {
+            Ok(printed) => first_difference(&judged, &String::from_utf8_lossy(&printed)),
+            Err(error) => Some(error.to_string()),
+        };
+        if let Some(told) = told {
+            let shown = String::from_utf8_lossy(&line[..line.len().min(60)]);
+            let name = self.name;
+            calls
+                .tally
+                .difference(format!("{name}, line {shown:?}: {told}"));
+        }
+        calls.tally.count(self.given, 1);
+        let lines = judged.lines().count() as u64;
+        calls.tally.count(self.printed, lines);
+    }
+
+    /// The fixed lines and so many random ones.
+    pub fn lines(&self, calls: &mut Calls, count: usize) {
+        for line in LINES {
+            self.line(calls, line.as_bytes());
+        }
+        self.line(calls, &[b'1'; 100_000]);
+        for _ in 0..count {
+            let right = right_line(&mut calls.random);
+            self.line(calls, &right);
+            let damaged = damaged_line(&mut calls.random);
+            self.line(calls, &damaged);
+        }
+    }
+
+    /// All rows of a length by one line.
+    pub fn all_rows(&self, calls: &mut Calls, bytes: u64) {
+        let rows = Length::new(bytes).map_or(0, Length::rows);
+        self.line(calls, format!("{bytes},0,{rows}\n").as_bytes());
+    }
+
+    /// The 512 block bits of the block in which the record ends: bits of the
+    /// record, then padding.
+    pub fn record_end(&self, calls: &mut Calls, bytes: u64) {
+        let first = START_ROWS + BLOCK_ROWS * (bytes / 64);
+        self.line(calls, format!("{bytes},{first},512\n").as_bytes());
     }
 }

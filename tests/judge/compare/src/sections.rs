@@ -12,8 +12,8 @@ use crate::damage::WAYS;
 use crate::forge::forge;
 
 /// Rows before block 0 and rows of a block.
-const START_ROWS: u64 = 256;
-const BLOCK_ROWS: u64 = 32_320;
+pub const START_ROWS: u64 = 256;
+pub const BLOCK_ROWS: u64 = 32_320;
 
 /// A record of that length: random, and now and then all zeros or all ones.
 fn record(calls: &mut Calls, length: u64) -> Vec<u8> {
