@@ -8,7 +8,7 @@ ghost use Rattle.circuit.specs.Sequence.{beside, grid};
 ghost use Rattle.sm3.specs.Sm3.{P1, expanded, expansion, mixed, pairWord};
 use crate::wires::put_word;
 use sm3::words::p1;
-use sm3::words::turn_left;
+use sm3::words::rotate_left;
 
 // W0 to W15 on the 512 wires from w on.
 pub fn put_block_words(out: &mut [u8], w: usize, x: &[u32; 68])
@@ -26,9 +26,9 @@ fn put_expanded(out: &mut [u8], w: usize, x: &[u32; 68], j: usize) -> u32
     ensures { λ r. ⌜ r ≡ expanded (now (x .entry)) j ⌝ }
     ensures { λ r. ⌜ Wrote w 96 (beside 32 (wordWires (mixed (now (x .entry)) j)) (beside 32 (wordWires (P1 (mixed (now (x .entry)) j))) (wordWires r))) (now (out .entry)) (now (out .exit)) ⌝ }
 {
-    let q = x[j - 16] ^ x[j - 9] ^ turn_left(x[j - 3], 15);
+    let q = x[j - 16] ^ x[j - 9] ^ rotate_left(x[j - 3], 15);
     let p = p1(q);
-    let r = p ^ turn_left(x[j - 13], 7) ^ x[j - 6];
+    let r = p ^ rotate_left(x[j - 13], 7) ^ x[j - 6];
     put_word(out, w, q);
     put_word(out, w + 32, p);
     put_word(out, w + 64, r);

@@ -9,8 +9,8 @@ ghost use Rattle.sm3.specs.Message.{bitOfBytes, blocks, message};
 use crate::block::put_block;
 use crate::wires::put_entry;
 use crate::wires::put_state;
+use sm3::constants::rotated_constants;
 use sm3::constants::start_state;
-use sm3::constants::turned_constants;
 use sm3::message::hash;
 use sm3::message::message_words;
 
@@ -30,7 +30,7 @@ fn put_message(out: &mut [u8], bytes: &[u8])
     ensures { λ _. ⌜ Wrote 513 (22528 * blocks (8 * length (now (bytes .entry)))) (messageWires (message (8 * length (now (bytes .entry))) (bitOfBytes (now (bytes .entry))))) (now (out .entry)) (now (out .exit)) ⌝ }
 {
     let n = (bytes.len() + 8) / 64 + 1;
-    let t = turned_constants();
+    let t = rotated_constants();
     let mut v = start_state();
     for i in 0..n {
         v = put_block(out, 513 + 22528 * i, v, message_words(bytes, i), &t);

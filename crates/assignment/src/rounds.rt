@@ -5,7 +5,7 @@ ghost use lib.ListN.{getD, length};
 ghost use Rattle.assignment.specs.Wrote.{Wrote};
 ghost use Rattle.circuit.specs.Layout.{roundWires, sumWires, wordWires};
 ghost use Rattle.circuit.specs.Sequence.{beside, grid};
-ghost use Rattle.sm3.specs.Sm3.{FF, GG, P0, SS2, dropped, pairWord, roundOf, rounds, sumTT1, sumTT2, sumU, turnedConstant};
+ghost use Rattle.sm3.specs.Sm3.{FF, GG, P0, SS2, dropped, pairWord, roundOf, rounds, sumTT1, sumTT2, sumU, rotatedConstant};
 ghost use Rattle.sm3.specs.Words.{tab};
 use crate::wires::low;
 use crate::wires::put_sum;
@@ -14,7 +14,7 @@ use sm3::state::State;
 use sm3::words::choice_of;
 use sm3::words::majority_of;
 use sm3::words::p0;
-use sm3::words::turn_left;
+use sm3::words::rotate_left;
 
 // What a round computes, in the order of its wires: u, SS2, FF, GG, TT1, TT2 and P0(TT2), the sums with nothing dropped.
 struct RoundValues {
@@ -61,14 +61,14 @@ fn gg_of(j: usize, x: u32, y: u32, z: u32) -> u32
     choice_of(x, y, z)
 }
 
-// Round j on s with T turned, Wj and W'j.
+// Round j on s with T rotated, Wj and W'j.
 fn round_values(s: State, j: usize, t: u32, word: u32, pair: u32) -> RoundValues
-    requires { ⌜ t ≡ turnedConstant j ⌝ }
+    requires { ⌜ t ≡ rotatedConstant j ⌝ }
     ensures { λ r. ⌜ (r .u ≡ sumU j s) × (r .ss2 ≡ SS2 j s) × (r .ff ≡ FF j (s .a) (s .b) (s .c)) × (r .gg ≡ GG j (s .e) (s .f) (s .g)) × (r .tt1 ≡ sumTT1 j pair s) × (r .tt2 ≡ sumTT2 j word s) × (r .p0 ≡ P0 (dropped (sumTT2 j word s))) ⌝ }
 {
-    let a12 = turn_left(s.a, 12);
+    let a12 = rotate_left(s.a, 12);
     let u = full_sum_of_3(a12, s.e, t);
-    let ss1 = turn_left(low(u), 7);
+    let ss1 = rotate_left(low(u), 7);
     let ss2 = ss1 ^ a12;
     let ff = ff_of(j, s.a, s.b, s.c);
     let gg = gg_of(j, s.e, s.f, s.g);
@@ -101,7 +101,7 @@ fn put_values(out: &mut [u8], w: usize, r: RoundValues)
 
 // Round j on the 230 wires from w on, and A to H after it.
 fn put_round(out: &mut [u8], w: usize, s: State, j: usize, x: &[u32; 68], t: &[u32; 64]) -> State
-    requires { ⌜ (j < 64) × (now t ≡ tab 64 turnedConstant) × (8 * (w + 230) ≤ length (now out)) ⌝ }
+    requires { ⌜ (j < 64) × (now t ≡ tab 64 rotatedConstant) × (8 * (w + 230) ≤ length (now out)) ⌝ }
     ensures { λ r. ⌜ r ≡ roundOf j (getD (now (x .entry)) j 0) (pairWord (now (x .entry)) j) s ⌝ }
     ensures { λ r. ⌜ Wrote w 230 (roundWires (now (x .entry)) j s) (now (out .entry)) (now (out .exit)) ⌝ }
 {
@@ -110,18 +110,18 @@ fn put_round(out: &mut [u8], w: usize, s: State, j: usize, x: &[u32; 68], t: &[u
     State {
         a: low(r.tt1),
         b: s.a,
-        c: turn_left(s.b, 9),
+        c: rotate_left(s.b, 9),
         d: s.c,
         e: r.p0,
         f: s.e,
-        g: turn_left(s.f, 19),
+        g: rotate_left(s.f, 19),
         h: s.g,
     }
 }
 
 // The 64 rounds on the 14,720 wires from w on, from the words v with the expansion x, and A to H after them.
 pub fn put_rounds(out: &mut [u8], w: usize, v: State, x: &[u32; 68], t: &[u32; 64]) -> State
-    requires { ⌜ (now t ≡ tab 64 turnedConstant) × (8 * (w + 14720) ≤ length (now out)) ⌝ }
+    requires { ⌜ (now t ≡ tab 64 rotatedConstant) × (8 * (w + 14720) ≤ length (now out)) ⌝ }
     ensures { λ r. ⌜ r ≡ rounds (now (x .entry)) v 64 ⌝ }
     ensures { λ r. ⌜ Wrote w 14720 (grid 230 (λ (j : ℕ). roundWires (now (x .entry)) j (rounds (now (x .entry)) v j))) (now (out .entry)) (now (out .exit)) ⌝ }
 {

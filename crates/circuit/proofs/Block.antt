@@ -13,13 +13,13 @@ use Rattle.circuit.proofs.States.{CarriesState, carries-nth, xor-nth}
 use Rattle.circuit.specs.Circuit.{resultForm, wPrimeForm}
 use Rattle.circuit.specs.Layout.{expansionWires, roundWires, stateWires, wordWires}
 use Rattle.circuit.specs.Sequence.{beside, grid}
-use Rattle.circuit.specs.Wires.{StateWires, resultFirst, stands}
+use Rattle.circuit.specs.Wires.{StatePosition, resultFirst, stands}
 use Rattle.circuit.specs.declared.form.Form.{Form}
 use Rattle.sm3.specs.Sm3.{block, expansion, pairWord, rounds, wordOf, xorState}
 use Rattle.sm3.specs.declared.state.State.{State}
 
 -- the rows of a block after those of its 512 bits
-unfoldable pub blockForms : ℕ → StateWires → ℕ → Form
+unfoldable pub blockForms : ℕ → StatePosition → ℕ → Form
 blockForms F v =
     beside 9984 (grid 192 (λ j. expansionForms F (16 + j)))
     (beside 2048 (grid 32 (wPrimeForm F))
@@ -34,7 +34,7 @@ computedWires b B =
     (beside 14720 (grid 230 (λ j. roundWires (expansion b 68) j (rounds (expansion b 68) B j)))
     (stateWires (block b B))))
 
-module _ (a : ℕ → ℕ) (J : Judged a) (F : ℕ) (v : StateWires) (B : State) (begun : CarriesState a v B) where
+module _ (a : ℕ → ℕ) (J : Judged a) (F : ℕ) (v : StatePosition) (B : State) (begun : CarriesState a v B) where
   module _ (S : State) (done : CarriesState a (stands F v 64) S) where
     makes-result : (k : ℕ) → k < 8 → Makes a 32 (resultForm F v k) (resultFirst F k) (wordOf (xorState S B) k)
     unfolding resultForm

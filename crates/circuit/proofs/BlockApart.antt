@@ -16,18 +16,18 @@ use Rattle.circuit.proofs.wire.Laws.{eight-word}
 use Rattle.circuit.specs.Circuit.{ffForm, ggForm, p0Form, p1Form, paired, qForm, resultForm, ss2Form, tt1Form, tt2Form, two, uForm, wForm, wPrimeForm}
 use Rattle.circuit.specs.Ranges.{In}
 use Rattle.circuit.specs.Rows.{_·_, nonzero}
-use Rattle.circuit.specs.Wires.{eightFrom, ffFirst, ggFirst, one, p0First, p1First, qFirst, standing, standsBefore, tt1First, tt2First, turnedBy, uFirst}
+use Rattle.circuit.specs.Wires.{eightFrom, ffFirst, ggFirst, one, p0First, p1First, qFirst, standing, standsBefore, tt1First, tt2First, rotatedBy, uFirst}
 use Rattle.circuit.specs.declared.form.Form.the-variants.{XorOfThree}
 use Rattle.circuit.specs.declared.form.Form.{Form}
 use Rattle.circuit.specs.declared.wire.WireNumber.{WireNumber}
-use Rattle.circuit.specs.declared.wire.WordWires.{WordWires}
-use Rattle.sm3.proofs.Bounds.{turnedConstant-lt}
-use Rattle.sm3.specs.Sm3.{turnedConstant}
+use Rattle.circuit.specs.declared.wire.WordPosition.{WordPosition}
+use Rattle.sm3.proofs.Bounds.{rotatedConstant-lt}
+use Rattle.sm3.specs.Sm3.{rotatedConstant}
 
--- a word and the same turned by `near` and by `far`, and a result past it
+-- a word and the same rotated by `near` and by `far`, and a result past it
 permuted-apart : (m from near far to l : ℕ)
     → (1 ≤ near) × (near < far) × (far < 32) × (1 ≤ from) × (from + 32 ≤ to) × (to + 32 ≤ m) → l < 64
-    → Apart m (paired XorOfThree (standing from) (turnedBy near (standing from)) (turnedBy far (standing from)) (standing to) l)
+    → Apart m (paired XorOfThree (standing from) (rotatedBy near (standing from)) (rotatedBy far (standing from)) (standing to) l)
 permuted-apart m from near far to l h low = xor-of-three-apart m _ _ _ _ (omega arith) l low
 
 module _ (m F : ℕ) (first : 257 ≤ F) (last : F + 22528 ≤ m) where
@@ -73,7 +73,7 @@ module _ (m F : ℕ) (first : 257 ≤ F) (last : F + 22528 ≤ m) where
         )
 
     -- the sum at r of two words x and z of the round, one of them, and a word t of the block from before the rounds
-    four-sums : (k r : ℕ) (x z t : WordWires) → k < 8
+    four-sums : (k r : ℕ) (x z t : WordPosition) → k < 8
         → (uFirst F j ≤ z .first .0) × (z .first .0 + 32 ≤ x .first .0) × (x .first .0 + 32 ≤ r) × (r + 34 ≤ m)
         → (F ≤ t .first .0) × (t .first .0 + 32 ≤ F + 7552) → ApartSum m (x ∷ before F j k ∷ z ∷ t ∷ []) 0 r
     unfolding nonzero
@@ -92,13 +92,13 @@ module _ (m F : ℕ) (first : 257 ≤ F) (last : F + 22528 ≤ m) where
     u-apart l =
         let x = older 0 (omega arith) in
         let y = older 4 (omega arith) in
-        sum-apart m (two (turnedBy 12 (before F j 0)) (before F j 4)) (turnedConstant j) (uFirst F j) l
+        sum-apart m (two (rotatedBy 12 (before F j 0)) (before F j 4)) (rotatedConstant j) (uFirst F j) l
         (record {
           words = omega arith;
           apart = ((clear 0 4 (omega arith) (omega arith), tt), (tt, tt));
           result = omega arith;
-          constant = turnedConstant-lt j;
-          few = omega (arith, nonzero-length (turnedConstant j · one ∷ []));
+          constant = rotatedConstant-lt j;
+          few = omega (arith, nonzero-length (rotatedConstant j · one ∷ []));
         })
 
     pub ss2-apart : (l : ℕ) → l < 32 → Apart m (ss2Form F (standsBefore F j) j l)

@@ -11,7 +11,7 @@ use native.Mathlib.Omega.{arith}
 use borrow.Author.Tests.{le-ltb, lt-ltb}
 use lib.Dec.{lit<}
 use lib.ListN.{getD}
-use Rattle.circuit.proofs.Carries.{Carries, Makes, carries-turned, carries-word, makes-xor-three, makes-xor-two, word-then}
+use Rattle.circuit.proofs.Carries.{Carries, Makes, carries-rotated, carries-word, makes-xor-three, makes-xor-two, word-then}
 use Rattle.circuit.proofs.Parts.{agree-at, agree-past, agree-row, each-at}
 use Rattle.circuit.proofs.Runs.{Agree, Holds, Judged, each}
 use Rattle.circuit.proofs.Sequence.{each-add}
@@ -47,19 +47,19 @@ module _ (a : ℕ → ℕ) (J : Judged a) (F : ℕ) (b : ℕ → ℕ) where
     makes-q : Makes a 64 (qForm F j) (qFirst F j) (mixed (expansion b 68) j)
     unfolding qForm mixed
     makes-q =
-        makes-xor-three a J (back 16 (lit< tt)) (back 9 (lit< tt)) (carries-turned a J 15 (lit< tt) (back 3 (lit< tt))) (qFirst F j)
+        makes-xor-three a J (back 16 (lit< tt)) (back 9 (lit< tt)) (carries-rotated a J 15 (lit< tt) (back 3 (lit< tt))) (qFirst F j)
 
     makes-p1 : Carries a (standing (qFirst F j)) (mixed (expansion b 68) j)
         → Makes a 64 (p1Form F j) (p1First F j) (P1 (mixed (expansion b 68) j))
     unfolding p1Form P1
-    makes-p1 cq = makes-xor-three a J cq (carries-turned a J 15 (lit< tt) cq) (carries-turned a J 23 (lit< tt) cq) (p1First F j)
+    makes-p1 cq = makes-xor-three a J cq (carries-rotated a J 15 (lit< tt) cq) (carries-rotated a J 23 (lit< tt) cq) (p1First F j)
 
     makes-w : Carries a (standing (p1First F j)) (P1 (mixed (expansion b 68) j))
         → Makes a 64 (wForm F j) (wFirst F j) (getD (expansion b 68) j 0)
     unfolding wForm expanded
     makes-w cp =
         subst (Makes a 64 (wForm F j) (wFirst F j)) (sym (getD-expanded b 68 j h l))
-        (makes-xor-three a J cp (carries-turned a J 7 (lit< tt) (back 13 (lit< tt))) (back 6 (lit< tt)) (wFirst F j))
+        (makes-xor-three a J cp (carries-rotated a J 7 (lit< tt) (back 13 (lit< tt))) (back 6 (lit< tt)) (wFirst F j))
 
     word-run : Holds a 192 (expansionForms F j) ↔ Agree a (qFirst F j) 96 (expansionWires (expansion b 68) j)
     unfolding expansionForms expansionWires

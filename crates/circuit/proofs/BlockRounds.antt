@@ -10,7 +10,7 @@ use native.Mathlib.Omega.{arith}
 use borrow.Author.Tests.{le-ltb, lt-ltb}
 use lib.Dec.{lit<, lit≤, ltb}
 use lib.ListN.{getD}
-use Rattle.circuit.proofs.Carries.{Carries, Makes, carries-sum, carries-turned, carries-word, makes-ff, makes-gg, makes-xor-three, makes-xor-two, sum-four-run, sum-then, sum-two-run, word-then}
+use Rattle.circuit.proofs.Carries.{Carries, Makes, carries-sum, carries-rotated, carries-word, makes-ff, makes-gg, makes-xor-three, makes-xor-two, sum-four-run, sum-then, sum-two-run, word-then}
 use Rattle.circuit.proofs.Parts.{agree-first, agree-past, agree-row, each-at, then-at}
 use Rattle.circuit.proofs.Regroup.{beside-grid}
 use Rattle.circuit.proofs.Runs.{Agree, Holds, Judged, each}
@@ -19,14 +19,14 @@ use Rattle.circuit.proofs.States.{CarriesState}
 use Rattle.circuit.specs.Circuit.{ffForm, ggForm, p0Form, ss1, ss2Form, tt1Form, tt2Form, uForm, word}
 use Rattle.circuit.specs.Layout.{roundWires, sumWires}
 use Rattle.circuit.specs.Sequence.{beside, grid}
-use Rattle.circuit.specs.Wires.{StateWires, ffFirst, ggFirst, moved, p0First, ss2First, standing, stands, tt1First, tt2First, uFirst, wPrimeFirst}
+use Rattle.circuit.specs.Wires.{StatePosition, ffFirst, ggFirst, moved, p0First, ss2First, standing, stands, tt1First, tt2First, uFirst, wPrimeFirst}
 use Rattle.circuit.specs.declared.form.Form.{Form}
-use Rattle.sm3.proofs.Bounds.{turnedConstant-lt}
-use Rattle.sm3.specs.Sm3.{FF, GG, P0, SS1, SS2, dropped, pairWord, roundOf, rounds, sumTT1, sumTT2, sumU, turnedConstant}
+use Rattle.sm3.proofs.Bounds.{rotatedConstant-lt}
+use Rattle.sm3.specs.Sm3.{FF, GG, P0, SS1, SS2, dropped, pairWord, roundOf, rounds, sumTT1, sumTT2, sumU, rotatedConstant}
 use Rattle.sm3.specs.declared.state.State.{State}
 
 -- the rows of round j, with g rows for GG, where A to H stand at s
-unfoldable pub roundForms : ℕ → ℕ → StateWires → ℕ → ℕ → Form
+unfoldable pub roundForms : ℕ → ℕ → StatePosition → ℕ → ℕ → Form
 roundForms g F s j =
     beside 35 (uForm F s j)
     (beside 32 (ss2Form F s j)
@@ -37,24 +37,24 @@ roundForms g F s j =
     (p0Form F j))))))
 
 -- the rows of the rounds of a block that begins with the words at v
-unfoldable pub roundsForms : ℕ → StateWires → ℕ → Form
+unfoldable pub roundsForms : ℕ → StatePosition → ℕ → Form
 roundsForms F v =
     beside 5264 (grid 329 (λ j. roundForms 64 F (stands F v j) j))
     (grid 297 (λ j. roundForms 32 F (stands F v (16 + j)) (16 + j)))
 
 module _ (a : ℕ → ℕ) (J : Judged a) (F : ℕ) (w : List ℕ) (j : ℕ) (cw : Carries a (word F j) (getD w j 0))
-    (cp : Carries a (standing (wPrimeFirst F j)) (pairWord w j)) (s : StateWires) (S : State) (c : CarriesState a s S) where
+    (cp : Carries a (standing (wPrimeFirst F j)) (pairWord w j)) (s : StatePosition) (S : State) (c : CarriesState a s S) where
   u-run : Holds a 35 (uForm F s j) ↔ Agree a (uFirst F j) 34 (sumWires (sumU j S))
   unfolding uForm sumU
-  u-run = sum-two-run a J (carries-turned a J 12 (lit< tt) (c .a)) (c .e) (turnedConstant j) (uFirst F j) (turnedConstant-lt j)
+  u-run = sum-two-run a J (carries-rotated a J 12 (lit< tt) (c .a)) (c .e) (rotatedConstant j) (uFirst F j) (rotatedConstant-lt j)
 
   carries-ss1 : Carries a (standing (uFirst F j)) (dropped (sumU j S)) → Carries a (ss1 F j) (SS1 j S)
   unfolding SS1
-  carries-ss1 cu = carries-turned a J 7 (lit< tt) cu
+  carries-ss1 cu = carries-rotated a J 7 (lit< tt) cu
 
   makes-ss2 : Carries a (ss1 F j) (SS1 j S) → Makes a 32 (ss2Form F s j) (ss2First F j) (SS2 j S)
   unfolding ss2Form SS2
-  makes-ss2 c1 = makes-xor-two a J c1 (carries-turned a J 12 (lit< tt) (c .a)) (ss2First F j)
+  makes-ss2 c1 = makes-xor-two a J c1 (carries-rotated a J 12 (lit< tt) (c .a)) (ss2First F j)
 
   makes-FF : Makes a 64 (ffForm F s j) (ffFirst F j) (FF j (S .a) (S .b) (S .c))
   unfolding ffForm FF
@@ -79,7 +79,7 @@ module _ (a : ℕ → ℕ) (J : Judged a) (F : ℕ) (w : List ℕ) (j : ℕ) (cw
 
   makes-p0 : {T : ℕ} → Carries a (standing (tt2First F j)) T → Makes a 64 (p0Form F j) (p0First F j) (P0 T)
   unfolding p0Form P0
-  makes-p0 ct = makes-xor-three a J ct (carries-turned a J 9 (lit< tt) ct) (carries-turned a J 17 (lit< tt) ct) (p0First F j)
+  makes-p0 ct = makes-xor-three a J ct (carries-rotated a J 9 (lit< tt) ct) (carries-rotated a J 17 (lit< tt) ct) (p0First F j)
 
   round-run : (g : ℕ) → cond (ltb j 16) 64 32 ≡ g
       → (Holds a (35 + (32 + (64 + (g + 134)))) (roundForms g F s j) ↔ Agree a (uFirst F j) 230 (roundWires w j S))
@@ -112,17 +112,17 @@ module _ (a : ℕ → ℕ) (J : Judged a) (F : ℕ) (w : List ℕ) (j : ℕ) (cw
       record {
         a = carries-sum a J (tt1First F j) _ (agree-first a (tt1First F j) 34 66 _ _ after-gg);
         b = c .a;
-        c = carries-turned a J 9 (lit< tt) (c .b);
+        c = carries-rotated a J 9 (lit< tt) (c .b);
         d = c .c;
         e = carries-word a J (makes-p0 ct) after-tt2;
         f = c .e;
-        g = carries-turned a J 19 (lit< tt) (c .f);
+        g = carries-rotated a J 19 (lit< tt) (c .f);
         h = c .g;
       }
 
 module _ (a : ℕ → ℕ) (J : Judged a) (F : ℕ) (w : List ℕ) (words : (j : ℕ) → j < 68 → Carries a (word F j) (getD w j 0))
     (pairs : (j : ℕ) → j < 64 → Carries a (standing (wPrimeFirst F j)) (pairWord w j))
-    (v : StateWires) (B : State) (begun : CarriesState a v B) where
+    (v : StatePosition) (B : State) (begun : CarriesState a v B) where
   -- A to H are carried before round j, where the wires of the earlier rounds agree
   rounds-carried : (j : ℕ) → j ≤ 64 → ((i : ℕ) → i < j → Agree a (uFirst F i) 230 (roundWires w i (rounds w B i)))
       → CarriesState a (stands F v j) (rounds w B j)

@@ -9,20 +9,20 @@ use native.Mathlib.Omega.{arith}
 use lib.Bits.{xor-lt}
 use Rattle.circuit.proofs.Parts.{then-at}
 use Rattle.circuit.proofs.Runs.{Agree, Holds, Judged, Reads}
-use Rattle.circuit.proofs.Words.{choice-word, majority-word, reads-standing, reads-sum, reads-turned, sum-four, sum-two, xor-three, xor-two}
+use Rattle.circuit.proofs.Words.{choice-word, majority-word, reads-standing, reads-sum, reads-rotated, sum-four, sum-two, xor-three, xor-two}
 use Rattle.circuit.specs.Circuit.{choiceOf, four, paired, summed, two, xorOfTwo}
 use Rattle.circuit.specs.Layout.{sumWires, wordWires}
 use Rattle.circuit.specs.Sequence.{beside}
-use Rattle.circuit.specs.Wires.{standing, turnedBy}
+use Rattle.circuit.specs.Wires.{standing, rotatedBy}
 use Rattle.circuit.specs.declared.form.Form.{Form}
 use Rattle.circuit.specs.declared.form.Form.the-variants.{XorOfThree, Majority}
-use Rattle.circuit.specs.declared.wire.WordWires.{WordWires}
+use Rattle.circuit.specs.declared.wire.WordPosition.{WordPosition}
 use Rattle.sm3.proofs.Bounds.{choice-lt, dropped-lt, majority-lt}
-use Rattle.sm3.proofs.Turn.{turn-lt}
+use Rattle.sm3.proofs.Rotation.{rotate-lt}
 use Rattle.sm3.specs.Sm3.{choice, dropped, majority, _⊕_}
-use Rattle.sm3.specs.Words.{turn}
+use Rattle.sm3.specs.Words.{rotateLeft}
 
-pub record Carries (a : ℕ → ℕ) (x : WordWires) (X : ℕ) : Type 0 where
+pub record Carries (a : ℕ → ℕ) (x : WordPosition) (X : ℕ) : Type 0 where
   pub below : X < 2 ^ 32
   pub reads : Reads a x X
 
@@ -32,11 +32,11 @@ pub record Makes (a : ℕ → ℕ) (n : ℕ) (f : ℕ → Form) (w X : ℕ) : Ty
   pub run : Holds a n f ↔ Agree a w 32 (wordWires X)
 
 module _ (a : ℕ → ℕ) (J : Judged a) where
-  pub carries-turned : {x : WordWires} {X : ℕ} (k : ℕ) → k < 32 → Carries a x X → Carries a (turnedBy k x) (turn k X)
-  carries-turned {x} {X} k h c =
+  pub carries-rotated : {x : WordPosition} {X : ℕ} (k : ℕ) → k < 32 → Carries a x X → Carries a (rotatedBy k x) (rotateLeft k X)
+  carries-rotated {x} {X} k h c =
       record {
-        below = turn-lt k X (omega arith) (c .below);
-        reads = reads-turned a J x X k (c .below) h (c .reads);
+        below = rotate-lt k X (omega arith) (c .below);
+        reads = reads-rotated a J x X k (c .below) h (c .reads);
       }
 
   pub carries-word : {n : ℕ} {f : ℕ → Form} {w X : ℕ} → Makes a n f w X → Agree a w 32 (wordWires X) → Carries a (standing w) X
@@ -59,7 +59,7 @@ module _ (a : ℕ → ℕ) (J : Judged a) where
   sum-then w u n m m′ s f g t e sum rest =
       then-at a w u n m 34 m′ f g (sumWires s) t e sum (λ h. rest (carries-sum w s h))
 
-  module _ {x y : WordWires} {X Y : ℕ} (cx : Carries a x X) (cy : Carries a y Y) where
+  module _ {x y : WordPosition} {X Y : ℕ} (cx : Carries a x X) (cy : Carries a y Y) where
     pub makes-xor-two : (r : ℕ) → Makes a 32 (xorOfTwo x y (standing r)) r (X ⊕ Y)
     makes-xor-two r =
         record {
@@ -70,7 +70,7 @@ module _ (a : ℕ → ℕ) (J : Judged a) where
     pub sum-two-run : (c r : ℕ) → c < 2 ^ 32 → (Holds a 35 (summed (two x y) c r) ↔ Agree a r 34 (sumWires (X + Y + c)))
     sum-two-run = sum-two a J x y X Y (cx .below) (cy .below) (cx .reads) (cy .reads)
 
-    module _ {z : WordWires} {Z : ℕ} (cz : Carries a z Z) where
+    module _ {z : WordPosition} {Z : ℕ} (cz : Carries a z Z) where
       pub makes-xor-three : (r : ℕ) → Makes a 64 (paired XorOfThree x y z (standing r)) r (X ⊕ Y ⊕ Z)
       makes-xor-three r =
           record {
@@ -99,7 +99,7 @@ module _ (a : ℕ → ℕ) (J : Judged a) where
             run = choice-word a J x y X Y (cx .below) (cy .below) (cx .reads) (cy .reads) z Z (cz .below) (cz .reads) r;
           }
 
-      pub sum-four-run : {t : WordWires} {T : ℕ} → Carries a t T → (r : ℕ)
+      pub sum-four-run : {t : WordPosition} {T : ℕ} → Carries a t T → (r : ℕ)
           → (Holds a 35 (summed (four x y z t) 0 r) ↔ Agree a r 34 (sumWires (X + Y + Z + T)))
       sum-four-run {t} {T} ct =
           sum-four a J x y X Y (cx .below) (cy .below) (cx .reads) (cy .reads) z Z (cz .below) (cz .reads) t T (ct .below) (ct .reads)

@@ -6,21 +6,21 @@ use Prim.Native.Nat.{ℕ, _%_}
 use lib.Dec.{eqb, ltb}
 use Rattle.circuit.specs.Circuit.{choiceOf, digestForm, ffForm, formOf, ggForm, messageForm, p0Form, p1Form, paired, qForm, resultForm, ss2Form, startForm, summed, tt1Form, tt2Form, uForm, wForm, wPrimeForm, xorOfTwo}
 use Rattle.circuit.specs.Terms.{Few}
-use Rattle.circuit.specs.Wires.{StateWires, ggFirst, standing}
+use Rattle.circuit.specs.Wires.{StatePosition, ggFirst, standing}
 use Rattle.circuit.specs.declared.form.Addends.{Addends}
 use Rattle.circuit.specs.declared.form.Form.{Form}
 use Rattle.circuit.specs.declared.form.Form.the-variants.{Bit, Fixed, Majority, XorOfThree}
 use Rattle.circuit.specs.declared.place.Step.{Step}
 use Rattle.circuit.specs.declared.place.Step.the-variants.{Start, Message, Q, P1, W, WPrime, U, Ss2, Ff, Gg, Tt1, Tt2, P0, Result, Digest}
 use Rattle.circuit.specs.declared.wire.WireNumber.{WireNumber}
-use Rattle.circuit.specs.declared.wire.WordWires.{WordWires}
+use Rattle.circuit.specs.declared.wire.WordPosition.{WordPosition}
 
 few-either : (b : Bool) (f g : Form) → Few f → Few g → Few (cond b f g)
 few-either true f g p q = p
 few-either false f g p q = q
 
 few-pair : (e : WireNumber → WireNumber → WireNumber → WireNumber → Form) → ((x y z r : WireNumber) → Few (e x y z r))
-    → (x y z r : WordWires) (l : ℕ) → Few (paired e x y z r l)
+    → (x y z r : WordPosition) (l : ℕ) → Few (paired e x y z r l)
 unfolding paired
 few-pair e h x y z r l = few-either (eqb (l % 2) 0) _ _ tt (h _ _ _ _)
 
@@ -36,7 +36,7 @@ few-message : (n k w : ℕ) → Few (messageForm n k w)
 unfolding messageForm
 few-message n k w = few-either (ltb k n) (Bit _) (Fixed _ _) tt tt
 
-few-gg : (F : ℕ) (s : StateWires) (j l : ℕ) → Few (ggForm F s j l)
+few-gg : (F : ℕ) (s : StatePosition) (j l : ℕ) → Few (ggForm F s j l)
 unfolding choiceOf ggForm
 few-gg F s j l = by (ltb j 16)
   where

@@ -21,7 +21,7 @@ mod BlockApart
 mod BlockExpansion
 mod BlockRounds
 mod Carries
-mod Chain
+mod AllBlocks
 mod Clear
 mod FewTerms
 mod NextPlace

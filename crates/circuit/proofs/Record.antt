@@ -11,7 +11,7 @@ use Rattle.circuit.proofs.Runs.{Agree}
 use Rattle.circuit.proofs.Sequence.{beside-first, beside-then, grid-at}
 use Rattle.circuit.specs.Layout.{blockWires, messageWires, recordWire, stateWires, wireCount, wireOf}
 use Rattle.circuit.specs.Sequence.{beside}
-use Rattle.sm3.specs.Message.{blockBits, blocks, chain, digestOf, message}
+use Rattle.sm3.specs.Message.{blockBits, blocks, chainingValue, digestOf, message}
 use Rattle.sm3.specs.Sm3.{start}
 
 -- the record that is read off the record wires
@@ -34,7 +34,7 @@ wires-congruent n r t e =
     (λ k.
     by-cases (decLt k n) (λ l. message-record n r k l ∙ e k l ∙ sym (message-record n t k l))
     (λ l. message-padding n r t k (omega arith))) in
-    ap (λ m. beside 1 (λ k. 1) (beside 256 (stateWires (chain m (blocks n))) (beside 256 (stateWires start) (messageWires m)))) same
+    ap (λ m. beside 1 (λ k. 1) (beside 256 (stateWires (chainingValue m (blocks n))) (beside 256 (stateWires start) (messageWires m)))) same
 
 pub record-wire : (i j : ℕ) → j < 512 → recordWire (512 * i + j) ≡ 513 + 22528 * i + j
 unfolding recordWire

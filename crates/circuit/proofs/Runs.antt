@@ -10,7 +10,7 @@ use Rattle.circuit.specs.Rows.{Satisfied, rowOf}
 use Rattle.circuit.specs.Sequence.{beside, grid}
 use Rattle.circuit.specs.Wires.{wireAt}
 use Rattle.circuit.specs.declared.form.Form.{Form}
-use Rattle.circuit.specs.declared.wire.WordWires.{WordWires}
+use Rattle.circuit.specs.declared.wire.WordPosition.{WordPosition}
 use Rattle.field.specs.Field.{p}
 use Rattle.sm3.specs.Words.{bit}
 
@@ -28,7 +28,7 @@ abbrev pub Agree : (ℕ → ℕ) → ℕ → ℕ → (ℕ → ℕ) → Type 0
 Agree a w n s = (k : ℕ) → k < n → a (w + k) ≡ s k
 
 -- the wires of x have the bits of the word X
-abbrev pub Reads : (ℕ → ℕ) → WordWires → ℕ → Type 0
+abbrev pub Reads : (ℕ → ℕ) → WordPosition → ℕ → Type 0
 Reads a x X = (i : ℕ) → i < 32 → a (wireAt x i .0) ≡ bit i X
 
 -- two pairs are equivalent if their first parts are and, given those, their second parts

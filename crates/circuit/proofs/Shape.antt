@@ -5,12 +5,12 @@ use Prim.Native.Nat.{ℕ, _<_, _≤_}
 use lib.ListN.{length-append}
 use Rattle.circuit.proofs.All.{all-append, all-both}
 use Rattle.circuit.proofs.Apart.{Parts, letters-few, letters-parts}
-use Rattle.circuit.proofs.Rises.{Part, all-nonzero, all-tidy, tidy-length, tidy-positive, tidy-rises}
+use Rattle.circuit.proofs.Rises.{Part, all-nonzero, all-normal, normal-length, normal-positive, normal-rises}
 use Rattle.circuit.proofs.RowApart.{row-apart}
 use Rattle.circuit.specs.Circuit.{formAt, rowAt}
 use Rattle.circuit.specs.Layout.{wireCount}
 use Rattle.circuit.specs.Places.{rowCount}
-use Rattle.circuit.specs.Rows.{Row, letters, nonzero, rowOf, terms, tidy}
+use Rattle.circuit.specs.Rows.{Row, letters, nonzero, rowOf, terms, normalForm}
 use Rattle.circuit.specs.Shape.{All, Shaped}
 use Rattle.circuit.specs.Terms.{unsorted}
 use Rattle.circuit.specs.declared.form.Term.{Term}
@@ -34,18 +34,18 @@ module _ (n k : ℕ) (below : k < rowCount n) where
       let m = wireCount n in
       let l = letters (formAt n k) in
       record {
-        a = tidy-rises (l .A) (parts .a .distinct);
-        b = tidy-rises (l .B) (parts .b .distinct);
-        c = tidy-rises (l .C) (parts .c .distinct);
-        wires = all-parts (λ t. t .wire .0 < m) tidy m (λ ts q. all-tidy (λ t. t .wire .0 < m) ts (q .wires)) l parts;
+        a = normal-rises (l .A) (parts .a .distinct);
+        b = normal-rises (l .B) (parts .b .distinct);
+        c = normal-rises (l .C) (parts .c .distinct);
+        wires = all-parts (λ t. t .wire .0 < m) normalForm m (λ ts q. all-normal (λ t. t .wire .0 < m) ts (q .wires)) l parts;
         coefficients =
-            all-parts (λ t. (1 ≤ t .coefficient) × (t .coefficient < p)) tidy m
+            all-parts (λ t. (1 ≤ t .coefficient) × (t .coefficient < p)) normalForm m
             (λ ts q.
-            all-both (λ t. 1 ≤ t .coefficient) (λ t. t .coefficient < p) (tidy ts) (tidy-positive ts)
-            (all-tidy (λ t. t .coefficient < p) ts (q .coefficients)))
+            all-both (λ t. 1 ≤ t .coefficient) (λ t. t .coefficient < p) (normalForm ts) (normal-positive ts)
+            (all-normal (λ t. t .coefficient < p) ts (q .coefficients)))
             l
             parts;
-        few = simp (length-append, tidy-length) (letters-few m (formAt n k) (row-apart n k below));
+        few = simp (length-append, normal-length) (letters-few m (formAt n k) (row-apart n k below));
       }
 
   -- .. and of the terms in the letters' order

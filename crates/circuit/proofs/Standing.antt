@@ -12,7 +12,7 @@ use Rattle.circuit.proofs.Clear.{Clear, ClearWords}
 use Rattle.circuit.proofs.wire.Laws.{word-placed}
 use Rattle.circuit.specs.Circuit.{stateWord}
 use Rattle.circuit.specs.Wires.{standsBefore, uFirst, wFirst}
-use Rattle.circuit.specs.declared.wire.WordWires.{WordWires}
+use Rattle.circuit.specs.declared.wire.WordPosition.{WordPosition}
 
 -- Wj, in one formula for the block's own words and for the expanded ones
 pub w-stands : (F j : ℕ) → wFirst F j ≡ F + 32 * j + 64 * (j - 15)
@@ -21,11 +21,11 @@ w-stands F j =
     (λ t. omega (arith, ltb-false j 16 t))
 
 -- word k of A to H before round j
-abbrev pub before : ℕ → ℕ → ℕ → WordWires
+abbrev pub before : ℕ → ℕ → ℕ → WordPosition
 before F j k = stateWord (standsBefore F j) k
 
 -- a word that stood before round j of the block whose first wire is F
-pub record Older (F j : ℕ) (x : WordWires) : Type 0 where
+pub record Older (F j : ℕ) (x : WordPosition) : Type 0 where
   pub low : F ≤ x .first .0 + 256
   pub clear : Clear (x .first .0) 32 F 7552
   pub high : x .first .0 + 32 ≤ uFirst F j

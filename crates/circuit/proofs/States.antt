@@ -10,12 +10,12 @@ use Rattle.circuit.proofs.Runs.{Agree, Judged}
 use Rattle.circuit.proofs.Words.{reads-standing}
 use Rattle.circuit.specs.Circuit.{stateWord}
 use Rattle.circuit.specs.Layout.{stateWires, wordWires}
-use Rattle.circuit.specs.Wires.{StateWires, eightFrom}
+use Rattle.circuit.specs.Wires.{StatePosition, eightFrom}
 use Rattle.sm3.proofs.Bounds.{Words}
 use Rattle.sm3.specs.Sm3.{_⊕_, wordOf, xorState}
 use Rattle.sm3.specs.declared.state.State.{State}
 
-pub record CarriesState (values : ℕ → ℕ) (s : StateWires) (S : State) : Type 0 where
+pub record CarriesState (values : ℕ → ℕ) (s : StatePosition) (S : State) : Type 0 where
   pub a : Carries values (s .a) (S .a)
   pub b : Carries values (s .b) (S .b)
   pub c : Carries values (s .c) (S .c)
@@ -37,7 +37,7 @@ eight P a b c d e f g h (suc (suc (suc (suc (suc (suc zero)))))) l = g
 eight P a b c d e f g h (suc (suc (suc (suc (suc (suc (suc zero))))))) l = h
 eight P a b c d e f g h (suc (suc (suc (suc (suc (suc (suc (suc k)))))))) l = absurd (omega arith)
 
-pub carries-nth : {values : ℕ → ℕ} {s : StateWires} {S : State} → CarriesState values s S → (k : ℕ) → k < 8
+pub carries-nth : {values : ℕ → ℕ} {s : StatePosition} {S : State} → CarriesState values s S → (k : ℕ) → k < 8
     → Carries values (stateWord s k) (wordOf S k)
 unfolding wordOf
 carries-nth {values} {s} {S} t =

@@ -17,7 +17,7 @@ use Rattle.circuit.specs.Wires.{at, one}
 use Rattle.circuit.specs.declared.form.Addends.{Addends}
 use Rattle.circuit.specs.declared.form.Term.{Term}
 use Rattle.circuit.specs.declared.wire.WireNumber.{WireNumber}
-use Rattle.circuit.specs.declared.wire.WordWires.{WordWires}
+use Rattle.circuit.specs.declared.wire.WordPosition.{WordPosition}
 use Rattle.field.specs.Field.{p}
 use Rattle.sm3.proofs.Tab.{length-tab}
 use Rattle.sm3.specs.Words.{tab}
@@ -66,7 +66,7 @@ module _ (a n : ℕ) (ts : List Term) (r : Run a n ts) where
 constant-run : (c : ℕ) → c < 2 ^ 32 → Run 0 1 (c · one ∷ [])
 constant-run c h = record { on = omega arith; distinct = (tt, tt); coefficients = omega arith; long = refl }
 
-word-run : (x : WordWires) → Run (x .first .0) 32 (weighted x)
+word-run : (x : WordPosition) → Run (x .first .0) 32 (weighted x)
 unfolding weighted
 word-run x =
     record {
@@ -97,18 +97,18 @@ taken-run r =
 
 -- The words that are added up.
 
-abbrev pub addendWords : Addends → List WordWires
+abbrev pub addendWords : Addends → List WordPosition
 addendWords s = s .x ∷ s .y ∷ cond (s .four) (s .z ∷ s .t ∷ []) []
 
 -- the words xs, the constant c and the result at r do not overlap, and a constant is left out beside four words
-pub record ApartSum (m : ℕ) (xs : List WordWires) (c r : ℕ) : Type 0 where
+pub record ApartSum (m : ℕ) (xs : List WordPosition) (c r : ℕ) : Type 0 where
   pub words : All (λ x. Under m x × Clear (x .first .0) 32 r 34) xs
   pub apart : Pairwise ClearWords xs
   pub result : (1 ≤ r) × (r + 34 ≤ m)
   pub constant : c < 2 ^ 32
   pub few : 32 * length xs + length (nonzero (c · one ∷ [])) ≤ 128
 
-weightedAll : List WordWires → List Term
+weightedAll : List WordPosition → List Term
 weightedAll [] = []
 weightedAll (x ∷ xs) = weighted x ++ weightedAll xs
 
@@ -120,13 +120,13 @@ addends-weighted s = append-assoc (weighted (s .x)) (weighted (s .y)) _ ∙ ap (
     more true = ap (λ l. weighted (s .z) ++ l) (sym (append-nil (weighted (s .t))))
     more false = refl
 
-weighted-off : (b m : ℕ) (xs : List WordWires) → All (λ x. Clear b m (x .first .0) 32) xs → All (Off b m) (weightedAll xs)
+weighted-off : (b m : ℕ) (xs : List WordPosition) → All (λ x. Clear b m (x .first .0) 32) xs → All (Off b m) (weightedAll xs)
 unfolding weightedAll
 weighted-off b m [] h = tt
 weighted-off b m (x ∷ xs) h =
     all-append (Off b m) (weighted x) (weightedAll xs) (run-off _ 32 (weighted x) (word-run x) b m (h .0)) (weighted-off b m xs (h .1))
 
-weighted-length : (xs : List WordWires) → length (weightedAll xs) ≡ 32 * length xs
+weighted-length : (xs : List WordPosition) → length (weightedAll xs) ≡ 32 * length xs
 unfolding weightedAll
 weighted-length [] = refl
 weighted-length (x ∷ xs) =
@@ -142,7 +142,7 @@ module _ (m c : ℕ) (r : WireNumber) where
       run-before 0 1 (c · one ∷ []) (constant-run c h) m (taken r) (omega arith) (run-part _ 34 (taken r) (taken-run r) m l)
       (run-off _ 34 (taken r) (taken-run r) 0 1 (omega arith))
 
-  words-part : (xs : List WordWires) → Part m (rest c r)
+  words-part : (xs : List WordPosition) → Part m (rest c r)
       → All (λ x. Under m x × Clear (x .first .0) 32 (r .0) 34) xs
       → Pairwise ClearWords xs → Part m (weightedAll xs ++ rest c r)
   unfolding weightedAll

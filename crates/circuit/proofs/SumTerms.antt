@@ -18,11 +18,11 @@ use Rattle.circuit.specs.declared.form.Addends.{Addends}
 use Rattle.circuit.specs.declared.form.Form.the-variants.{Sum}
 use Rattle.circuit.specs.declared.form.Term.{Term}
 use Rattle.circuit.specs.declared.wire.WireNumber.{WireNumber}
-use Rattle.circuit.specs.declared.wire.WordWires.{WordWires}
+use Rattle.circuit.specs.declared.wire.WordPosition.{WordPosition}
 use Rattle.sm3.proofs.Tab.{length-tab}
 use Rattle.sm3.specs.Words.{tab}
 
-pub weighted-length : (x : WordWires) → length (weighted x) ≡ 32
+pub weighted-length : (x : WordPosition) → length (weighted x) ≡ 32
 unfolding weighted
 weighted-length x = length-tab 32 _
 
@@ -53,7 +53,7 @@ less-pos i e =
     let small : 31 - i ≤ 31 = omega arith in
     omega (arith, pow-mono small)
 
-nonzero-weighted : (x : WordWires) → nonzero (weighted x) ≡ weighted x
+nonzero-weighted : (x : WordPosition) → nonzero (weighted x) ≡ weighted x
 unfolding weighted
 nonzero-weighted x = nonzero-tab 32 _ weight-pos
 

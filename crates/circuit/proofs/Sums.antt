@@ -18,7 +18,7 @@ use Rattle.circuit.specs.Wires.{at, one, wireAt}
 use Rattle.circuit.specs.declared.form.Addends.{Addends}
 use Rattle.circuit.specs.declared.form.Form.the-variants.{Sum}
 use Rattle.circuit.specs.declared.wire.WireNumber.{WireNumber}
-use Rattle.circuit.specs.declared.wire.WordWires.{WordWires}
+use Rattle.circuit.specs.declared.wire.WordPosition.{WordPosition}
 use Rattle.field.specs.Field.{p}
 use Rattle.sm3.proofs.Bits.{bit-lt}
 use Rattle.sm3.proofs.Numbers.{bit-number, bit-of-number, number-bits, number-cong, number-lt, number-of-bits}
@@ -72,13 +72,13 @@ sum-bits s b h = (
 )
 
 module _ (a : ℕ → ℕ) where
-  value-word : (x : WordWires) (X : ℕ) → X < 2 ^ 32 → Reads a x X → value a (weighted x) ≡ X
+  value-word : (x : WordPosition) (X : ℕ) → X < 2 ^ 32 → Reads a x X → value a (weighted x) ≡ X
   unfolding weighted
   value-word x X h reads =
       value-weighted a 32 0 (wireAt x) ∙ mul-one (number 32 (λ i. a (wireAt x i .0)))
       ∙ number-cong 32 (λ i. a (wireAt x i .0)) (λ i. bit i X) reads ∙ number-bits X h
 
-  pub value-words : (x y : WordWires) (X Y : ℕ) → X < 2 ^ 32 → Y < 2 ^ 32 → Reads a x X → Reads a y Y
+  pub value-words : (x y : WordPosition) (X Y : ℕ) → X < 2 ^ 32 → Y < 2 ^ 32 → Reads a x X → Reads a y Y
       → value a (weighted x ++ weighted y) ≡ X + Y
   value-words x y X Y hx hy rx ry =
       value-append a (weighted x) (weighted y) ∙ ap₂ _+_ (value-word x X hx rx) (value-word y Y hy ry)

@@ -11,7 +11,7 @@ use native.Mathlib.Omega.{arith}
 use borrow.Author.Tests.{eqb-true}
 use lib.Dec.{eqb, ltb}
 use Rattle.circuit.proofs.Sequence.{Each}
-use Rattle.circuit.specs.Rows.{Satisfied, _·_, insert, less, letters, nonzero, rowOf, sorted, tidy, value}
+use Rattle.circuit.specs.Rows.{Satisfied, _·_, insert, less, letters, nonzero, rowOf, sorted, normalForm, value}
 use Rattle.circuit.specs.declared.form.Form.{Form}
 use Rattle.circuit.specs.declared.form.Term.{Term}
 use Rattle.circuit.specs.declared.wire.WireNumber.{WireNumber}
@@ -53,14 +53,14 @@ module _ (a : ℕ → ℕ) where
   value-sorted [] = refl
   value-sorted (t ∷ ts) = value-insert t (sorted ts) ∙ ap (λ (n : ℕ). t .coefficient * a (t .wire .0) + n) (value-sorted ts)
 
-  pub value-tidy : (ts : List Term) → value a (tidy ts) ≡ value a ts
-  unfolding tidy
-  value-tidy ts = value-sorted (nonzero ts) ∙ value-nonzero ts
+  pub value-normal : (ts : List Term) → value a (normalForm ts) ≡ value a ts
+  unfolding normalForm
+  value-normal ts = value-sorted (nonzero ts) ∙ value-nonzero ts
 
   -- a form's row is satisfied as its letters are
   pub row-letters : (f : Form) → Satisfied a (rowOf f) ↔ Satisfied a (letters f)
   unfolding Satisfied rowOf
-  row-letters f = simp value-tidy Iff·rfl
+  row-letters f = simp value-normal Iff·rfl
 
   value-tab : (n : ℕ) (f : ℕ → Term) → value a (tab (suc n) f) ≡ value a (tab n f) + f n .coefficient * a (f n .wire .0)
   unfolding value tab

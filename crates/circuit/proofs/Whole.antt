@@ -9,7 +9,7 @@ use native.Mathlib.Nat.{zero-add}
 use native.Mathlib.Omega.{arith}
 use borrow.Author.Tests.{ltb-false, ltb-true}
 use lib.Dec.{lit<, ltb}
-use Rattle.circuit.proofs.Chain.{chain-results, chain-run}
+use Rattle.circuit.proofs.AllBlocks.{chaining-results, chaining-run}
 use Rattle.circuit.proofs.Order.{blockRows, form-at, messageForms, wholeForms}
 use Rattle.circuit.proofs.Parts.{agree-beside, agree-row}
 use Rattle.circuit.proofs.Record.{message-padding, message-record, read-off, readOff, record-wire, wires-congruent}
@@ -26,7 +26,7 @@ use Rattle.circuit.specs.Wires.{blockFirst, resultFirst}
 use Rattle.circuit.specs.declared.form.Form.the-variants.{Bit, Fixed}
 use Rattle.sm3.proofs.Bits.{bit-lt}
 use Rattle.sm3.proofs.Bounds.{message-lt}
-use Rattle.sm3.specs.Message.{blockBits, blocks, chain, digestOf, message}
+use Rattle.sm3.specs.Message.{blockBits, blocks, chainingValue, digestOf, message}
 use Rattle.sm3.specs.Sm3.{start, wordOf}
 use Rattle.sm3.specs.Words.{bit}
 
@@ -72,8 +72,8 @@ module _ (a : ℕ → ℕ) (J : Judged a) where
         let F : ℕ = blockFirst (blocks n - 1) in
         let last : suc (blocks n - 1) ≡ blocks n = omega arith in
         let results : Agree a (F + 22272) 256 (stateWires (digestOf n (readOff a))) =
-        subst (λ i. Agree a (F + 22272) 256 (stateWires (chain (message n (readOff a)) i))) last
-        (chain-results a (message n (readOff a)) (blocks n) e (blocks n - 1) (omega arith)) in
+        subst (λ i. Agree a (F + 22272) 256 (stateWires (chainingValue (message n (readOff a)) i))) last
+        (chaining-results a (message n (readOff a)) (blocks n) e (blocks n - 1) (omega arith)) in
         each a 1 8 32 32 _ _
         (λ k l earlier.
         each-iff 32 _ _
@@ -117,7 +117,7 @@ circuit n a J =
     (Iff·trans (rows-apart n a)
     (Iff·trans
     (and-given (start-run a J)
-    (λ s. and-given (chain-run a (message n r) J s (messageForms n) (blocks n) bits (message-run a J n)) (digest-run a J n)))
+    (λ s. and-given (chaining-run a (message n r) J s (messageForms n) (blocks n) bits (message-run a J n)) (digest-run a J n)))
     (Iff·trans (λ h. (one, (h .1 .1, (h .0, h .1 .0))), λ h. (h .1 .1 .0, (h .1 .1 .1, h .1 .0)))
     (Iff·symm (wires-apart n a r)))))
 

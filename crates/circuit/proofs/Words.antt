@@ -18,22 +18,22 @@ use Rattle.circuit.specs.Circuit.{choiceOf, four, paired, summed, two, x
 use Rattle.circuit.specs.Layout.{carryWires, sumWires, wordWires}
 use Rattle.circuit.specs.Rows.{Satisfied, addendTerms, rowOf, value, weighted}
 use Rattle.circuit.specs.Sequence.{beside, grid}
-use Rattle.circuit.specs.Wires.{standing, turnedBy, wireAt}
+use Rattle.circuit.specs.Wires.{standing, rotatedBy, wireAt}
 use Rattle.circuit.specs.declared.form.Addends.{Addends}
 use Rattle.circuit.specs.declared.form.Form.{Form}
 use Rattle.circuit.specs.declared.form.Form.the-variants.{Bit, XorOfThree, Majority, Sum}
 use Rattle.circuit.specs.declared.wire.WireNumber.{WireNumber}
-use Rattle.circuit.specs.declared.wire.WordWires.{WordWires}
+use Rattle.circuit.specs.declared.wire.WordPosition.{WordPosition}
 use Rattle.sm3.proofs.Bits.{bit-choice, bit-lt, bit-majority, bit-xor, bit-xor-3}
-use Rattle.sm3.proofs.Turn.{bit-turn}
+use Rattle.sm3.proofs.Rotation.{bit-rotate}
 use Rattle.sm3.specs.Sm3.{choice, dropped, majority, _⊕_}
-use Rattle.sm3.specs.Words.{bit, turn}
+use Rattle.sm3.specs.Words.{bit, rotateLeft}
 
 module _ (a : ℕ → ℕ) (J : Judged a) where
-  pub reads-turned : (x : WordWires) (X k : ℕ) → X < 2 ^ 32 → k < 32 → Reads a x X → Reads a (turnedBy k x) (turn k X)
-  reads-turned x X k hX hk h i l =
-      let place : (i + (x .turn + k) % 32) % 32 ≡ ((i + k) % 32 + x .turn) % 32 = omega arith in
-      ap (λ (j : ℕ). a (x .first .0 + j)) place ∙ h ((i + k) % 32) (omega arith) ∙ sym (bit-turn k i X (omega arith) l hX)
+  pub reads-rotated : (x : WordPosition) (X k : ℕ) → X < 2 ^ 32 → k < 32 → Reads a x X → Reads a (rotatedBy k x) (rotateLeft k X)
+  reads-rotated x X k hX hk h i l =
+      let place : (i + (x .rotation + k) % 32) % 32 ≡ ((i + k) % 32 + x .rotation) % 32 = omega arith in
+      ap (λ (j : ℕ). a (x .first .0 + j)) place ∙ h ((i + k) % 32) (omega arith) ∙ sym (bit-rotate k i X (omega arith) l hX)
 
   pub reads-standing : (w X : ℕ) → Agree a w 32 (wordWires X) → Reads a (standing w) X
   unfolding wordWires
@@ -46,7 +46,7 @@ module _ (a : ℕ → ℕ) (J : Judged a) where
   reads-sum w s h =
       reads-standing w (dropped s) (each-beside (λ k v. a (w + k) ≡ v) 32 2 (wordWires (dropped s)) (carryWires s) .0 h .0)
 
-  reads-bit : (x : WordWires) (X : ℕ) → Reads a x X → (i : ℕ) → i < 32 → a (wireAt x i .0) < 2
+  reads-bit : (x : WordPosition) (X : ℕ) → Reads a x X → (i : ℕ) → i < 32 → a (wireAt x i .0) < 2
   reads-bit x X h i l = rw (h i l) (bit-lt i X)
 
   -- rows that fix each wire of a word fix the word
@@ -61,7 +61,7 @@ module _ (a : ℕ → ℕ) (J : Judged a) where
       (λ q. ap a (sym place) ∙ q ∙ sym (e i l), λ q. ap a place ∙ q ∙ e i l))
 
   -- the same where the bit row of each wire comes before its equation
-  paired-rows : (equation : WireNumber → WireNumber → WireNumber → WireNumber → Form) (x y z : WordWires) (r W : ℕ) (v : ℕ → ℕ)
+  paired-rows : (equation : WireNumber → WireNumber → WireNumber → WireNumber → Form) (x y z : WordPosition) (r W : ℕ) (v : ℕ → ℕ)
       → ((i : ℕ) → i < 32 → a (wireAt (standing r) i .0) < 2
       → (Satisfied a (rowOf (equation (wireAt x i) (wireAt y i) (wireAt z i) (wireAt (standing r) i)))
       ↔ (a (wireAt (standing r) i .0) ≡ v i)))
@@ -98,7 +98,7 @@ module _ (a : ℕ → ℕ) (J : Judged a) where
       Iff·trans (each-one (λ l. Satisfied a (rowOf (Sum s c (record { 0 = r }))))) (sum-row a J s c v (record { 0 = r }) e h bits)))
       (sum-bits (v + c) (λ i. a (r + i)) h))
 
-  module _ (x y : WordWires) (X Y : ℕ) (hX : X < 2 ^ 32) (hY : Y < 2 ^ 32) (rx : Reads a x X) (ry : Reads a y Y) where
+  module _ (x y : WordPosition) (X Y : ℕ) (hX : X < 2 ^ 32) (hY : Y < 2 ^ 32) (rx : Reads a x X) (ry : Reads a y Y) where
     pub xor-two : (r : ℕ) → (Holds a 32 (xorOfTwo x y (standing r)) ↔ Agree a r 32 (wordWires (X ⊕ Y)))
     unfolding xorOfTwo
     xor-two r =
@@ -113,7 +113,7 @@ module _ (a : ℕ → ℕ) (J : Judged a) where
         sum-rows (two x y) c (X + Y) r
         (omega (arith, value-append a (weighted x ++ weighted y) [], value-words a x y X Y hX hY rx ry)) (omega arith)
 
-    module _ (z : WordWires) (Z : ℕ) (hZ : Z < 2 ^ 32) (rz : Reads a z Z) where
+    module _ (z : WordPosition) (Z : ℕ) (hZ : Z < 2 ^ 32) (rz : Reads a z Z) where
       pub xor-three : (r : ℕ) → (Holds a 64 (paired XorOfThree x y z (standing r)) ↔ Agree a r 32 (wordWires (X ⊕ Y ⊕ Z)))
       xor-three r =
           paired-rows XorOfThree x y z r (X ⊕ Y ⊕ Z) _
@@ -139,7 +139,7 @@ module _ (a : ℕ → ℕ) (J : Judged a) where
           (wireAt z i) (reads-bit z Z rz i l))
           (λ i l. rw (rx i l, ry i l, rz i l) (bit-choice i X Y Z hX))
 
-      module _ (t : WordWires) (T : ℕ) (hT : T < 2 ^ 32) (rt : Reads a t T) where
+      module _ (t : WordPosition) (T : ℕ) (hT : T < 2 ^ 32) (rt : Reads a t T) where
         pub sum-four : (r : ℕ) → (Holds a 35 (summed (four x y z t) 0 r) ↔ Agree a r 34 (sumWires (X + Y + Z + T)))
         unfolding addendTerms value
         sum-four r =

@@ -4,7 +4,7 @@ use mathlib.Core.List.{List}
 use Prim.Native.Nat.{ℕ, _+_, _-_, _*_, _/_, _%_, _^_}
 use lib.ListN.{getD}
 use Rattle.circuit.specs.Sequence.{beside, grid}
-use Rattle.sm3.specs.Message.{blockBits, blocks, chain, digestOf, message}
+use Rattle.sm3.specs.Message.{blockBits, blocks, chainingValue, digestOf, message}
 use Rattle.sm3.specs.Sm3.{FF, GG, P0, P1, SS2, block, dropped, expansion, mixed, pairWord, rounds, start, sumTT1, sumTT2, sumU, wordOf}
 use Rattle.sm3.specs.Words.{bit}
 use Rattle.sm3.specs.declared.state.State.{State}
@@ -55,7 +55,7 @@ blockWires b v =
 
 -- the block wires of a message m, block after block
 unfoldable pub messageWires : (ℕ → ℕ) → ℕ → ℕ
-messageWires m = grid 22528 (λ i. blockWires (blockBits m i) (chain m i))
+messageWires m = grid 22528 (λ i. blockWires (blockBits m i) (chainingValue m i))
 
 -- "Wire 0 is the constant 1. Wires 1 to 256: digest. 257 to 512: start words. Then 22,528 a block"
 unfoldable pub wireOf : ℕ → (ℕ → ℕ) → ℕ → ℕ

@@ -3,7 +3,7 @@ use mathlib.Core.Bool.{cond}
 use Prim.Native.Nat.{ℕ, zero, suc, _+_, _-_, _*_, _%_, _<_}
 use lib.Dec.{ltb}
 use Rattle.circuit.specs.declared.wire.WireNumber.{WireNumber}
-use Rattle.circuit.specs.declared.wire.WordWires.{WordWires}
+use Rattle.circuit.specs.declared.wire.WordPosition.{WordPosition}
 
 -- "Wire 0 is the constant 1"
 abbrev pub one : WireNumber
@@ -13,21 +13,21 @@ one = record { 0 = 0 }
 abbrev pub at : WireNumber → ℕ → WireNumber
 at w i = record { 0 = w .0 + i }
 
--- "A turned word is the same wires in another order": a word that stands from wire w on, and the same turned by k more
-abbrev pub standing : ℕ → WordWires
-standing w = record { first = record { 0 = w }; turn = 0 }
+-- "A turned word is the same wires in another order": a word that stands from wire w on, and the same rotated by k more
+abbrev pub standing : ℕ → WordPosition
+standing w = record { first = record { 0 = w }; rotation = 0 }
 
-abbrev pub turnedBy : ℕ → WordWires → WordWires
-turnedBy k x = record { first = x .first; turn = (x .turn + k) % 32 }
+abbrev pub rotatedBy : ℕ → WordPosition → WordPosition
+rotatedBy k x = record { first = x .first; rotation = (x .rotation + k) % 32 }
 
 -- what the code keeps to, so that no number of a wire overflows
-pub record Within (x : WordWires) : Type 0 where
+pub record Within (x : WordPosition) : Type 0 where
   pub first : x .first .0 < 1000000
-  pub turn : x .turn < 32
+  pub rotation : x .rotation < 32
 
 -- the wire of bit i
-abbrev pub wireAt : WordWires → ℕ → WireNumber
-wireAt x i = at (x .first) ((i + x .turn) % 32)
+abbrev pub wireAt : WordPosition → ℕ → WireNumber
+wireAt x i = at (x .first) ((i + x .rotation) % 32)
 
 -- "Wires 1 to 256: digest. 257 to 512: start words. Then 22,528 a block"
 abbrev pub digestFirst : ℕ
@@ -80,18 +80,18 @@ abbrev pub resultFirst : ℕ → ℕ → ℕ
 resultFirst F k = F + 22272 + 32 * k
 
 -- Where A to H stand.
-pub record StateWires : Type 0 where
-  pub a : WordWires
-  pub b : WordWires
-  pub c : WordWires
-  pub d : WordWires
-  pub e : WordWires
-  pub f : WordWires
-  pub g : WordWires
-  pub h : WordWires
+pub record StatePosition : Type 0 where
+  pub a : WordPosition
+  pub b : WordPosition
+  pub c : WordPosition
+  pub d : WordPosition
+  pub e : WordPosition
+  pub f : WordPosition
+  pub g : WordPosition
+  pub h : WordPosition
 
 -- the eight words that stand one after the other from wire w on
-unfoldable pub eightFrom : ℕ → StateWires
+unfoldable pub eightFrom : ℕ → StatePosition
 eightFrom w =
     record {
       a = standing w;
@@ -106,24 +106,24 @@ eightFrom w =
 
 -- after round j of the block whose first wire is F: "Then D = C, C = B<<<9, B = A, A = TT1, H = G, G = F<<<19, F = E,
 -- E = P0(TT2)"
-unfoldable pub moved : ℕ → ℕ → StateWires → StateWires
+unfoldable pub moved : ℕ → ℕ → StatePosition → StatePosition
 moved F j s =
     record {
       a = standing (tt1First F j);
       b = s .a;
-      c = turnedBy 9 (s .b);
+      c = rotatedBy 9 (s .b);
       d = s .c;
       e = standing (p0First F j);
       f = s .e;
-      g = turnedBy 19 (s .f);
+      g = rotatedBy 19 (s .f);
       h = s .g;
     }
 
 -- before round j of a block that begins with the words at v
-unfoldable pub stands : ℕ → StateWires → ℕ → StateWires
+unfoldable pub stands : ℕ → StatePosition → ℕ → StatePosition
 stands F v zero = v
 stands F v (suc j) = moved F j (stands F v j)
 
 -- .. where these are the 256 wires before the block's first, as they are for every block of a record
-abbrev pub standsBefore : ℕ → ℕ → StateWires
+abbrev pub standsBefore : ℕ → ℕ → StatePosition
 standsBefore F j = stands F (eightFrom (F - 256)) j

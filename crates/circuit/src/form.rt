@@ -1,6 +1,6 @@
 // The row forms, which name the wires of a row, and the terms of a row.
 use crate::wire::WireNumber;
-use crate::wire::WordWires;
+use crate::wire::WordPosition;
 
 // A wire and its coefficient.
 pub struct Term {
@@ -10,11 +10,11 @@ pub struct Term {
 
 // Two words, or four where `four` is true, that are added up.
 pub struct Addends {
-    pub x: WordWires,
-    pub y: WordWires,
+    pub x: WordPosition,
+    pub y: WordPosition,
     pub four: bool,
-    pub z: WordWires,
-    pub t: WordWires,
+    pub z: WordPosition,
+    pub t: WordPosition,
 }
 
 // One row's equation, in the letters of the layout.

@@ -12,7 +12,7 @@ ghost use Rattle.sm3.specs.Words.{tab};
 use crate::form::Addends;
 use crate::form::Form;
 use crate::wire::WireNumber;
-use crate::wire::WordWires;
+use crate::wire::WordPosition;
 use crate::wire::wire_of_bit;
 use crate::wire::wire_past;
 use field::P;
@@ -56,7 +56,7 @@ fn push_three(terms: &mut [u64], n: usize, x: WireNumber, y: WireNumber, z: Wire
 }
 
 // Writes a word's wires with their weights behind the first n terms.
-fn push_word(terms: &mut [u64], n: usize, x: WordWires)
+fn push_word(terms: &mut [u64], n: usize, x: WordPosition)
     requires { ⌜ (2 * n + 64 ≤ length (now terms)) × Within x ⌝ }
     ensures { λ _. ⌜ Appended n (weighted x) (now (terms .entry)) (now (terms .exit)) ⌝ }
 {

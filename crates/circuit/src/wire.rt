@@ -2,15 +2,15 @@
 ghost use mathlib.Core.Path.{_≡_};
 ghost use Prim.Native.Nat.{_+_, _<_, _≤_};
 ghost use Rattle.circuit.specs.Circuit.{stateWord};
-ghost use Rattle.circuit.specs.Wires.{Within, at, standing, standsBefore, turnedBy, wFirst, wireAt};
+ghost use Rattle.circuit.specs.Wires.{Within, at, standing, standsBefore, rotatedBy, wFirst, wireAt};
 
 // A wire's number, from 0.
 pub struct WireNumber(pub u64);
 
-// The 32 wires of a word, turned left by `turn` bits: bit i, from the highest, is wire first + (i + turn) mod 32.
-pub struct WordWires {
+// The 32 wires of a word, rotated left by `rotation` bits: bit i, from the highest, is wire first + (i + rotation) mod 32.
+pub struct WordPosition {
     pub first: WireNumber,
-    pub turn: u64,
+    pub rotation: u64,
 }
 
 // The wire that is i past w.
@@ -22,39 +22,39 @@ pub fn wire_past(w: WireNumber, i: u64) -> WireNumber
 }
 
 // The wire of a word's bit i.
-pub fn wire_of_bit(x: WordWires, i: u64) -> WireNumber
+pub fn wire_of_bit(x: WordPosition, i: u64) -> WireNumber
     requires { ⌜ Within x × (i < 32) ⌝ }
     ensures { λ r. ⌜ r ≡ wireAt x i ⌝ }
 {
     let first = x.first;
-    WireNumber(first.0 + (i + x.turn) % 32)
+    WireNumber(first.0 + (i + x.rotation) % 32)
 }
 
 // A word that stands from wire w on.
-pub fn word_from(w: u64) -> WordWires
+pub fn word_from(w: u64) -> WordPosition
     requires { ⌜ w < 1000000 ⌝ }
     ensures { λ r. ⌜ (r ≡ standing w) × Within r ⌝ }
 {
-    WordWires {
+    WordPosition {
         first: WireNumber(w),
-        turn: 0,
+        rotation: 0,
     }
 }
 
-// A word turned left by k bits.
-pub fn turned(k: u64, x: WordWires) -> WordWires
+// A word rotated left by k bits.
+pub fn rotated(k: u64, x: WordPosition) -> WordPosition
     requires { ⌜ (k < 32) × Within x ⌝ }
-    ensures { λ r. ⌜ (r ≡ turnedBy k x) × Within r ⌝ }
+    ensures { λ r. ⌜ (r ≡ rotatedBy k x) × Within r ⌝ }
 {
     let first = x.first;
-    WordWires {
+    WordPosition {
         first,
-        turn: (x.turn + k) % 32,
+        rotation: (x.rotation + k) % 32,
     }
 }
 
 // Wj.
-pub fn expanded_word(first: u64, j: u64) -> WordWires
+pub fn expanded_word(first: u64, j: u64) -> WordPosition
     requires { ⌜ (first < 500000) × (j < 68) ⌝ }
     ensures { λ r. ⌜ (r ≡ standing (wFirst first j)) × Within r ⌝ }
 {
@@ -78,8 +78,8 @@ fn origin(first: u64, k: u64, j: u64) -> u64
     first + 7682 + 68 * half + 230 * (j - 1 - lag)
 }
 
-// Word k of A to H before round j: it is turned once, on its way from the second place of its four to the third.
-pub fn word_before(first: u64, k: u64, j: u64) -> WordWires
+// Word k of A to H before round j: it is rotated once, on its way from the second place of its four to the third.
+pub fn word_before(first: u64, k: u64, j: u64) -> WordPosition
     requires { ⌜ (256 ≤ first) × (first < 500000) × (k < 8) × (j ≤ 64) ⌝ }
     ensures { λ r. ⌜ (r ≡ stateWord (standsBefore first j) k) × Within r ⌝ }
 {
@@ -91,5 +91,5 @@ pub fn word_before(first: u64, k: u64, j: u64) -> WordWires
     if j + 2 <= lag {
         return word;
     }
-    turned(9 + 10 * (k / 4), word)
+    rotated(9 + 10 * (k / 4), word)
 }

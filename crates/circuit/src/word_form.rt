@@ -4,18 +4,18 @@ ghost use mathlib.Core.Path.{_≡_};
 ghost use Prim.Native.Nat.{_<_};
 ghost use Rattle.circuit.specs.Circuit.{choiceOf, paired, summed, xorOfTwo};
 ghost use Rattle.circuit.specs.Terms.{Fit};
-ghost use Rattle.circuit.specs.Wires.{Within, standing, turnedBy};
+ghost use Rattle.circuit.specs.Wires.{Within, standing, rotatedBy};
 ghost use Rattle.circuit.specs.declared.form.Form.the-variants.{Majority, Sum, XorOfThree};
 use crate::form::Addends;
 use crate::form::Form;
 use crate::wire::WireNumber;
-use crate::wire::WordWires;
-use crate::wire::turned;
+use crate::wire::WordPosition;
+use crate::wire::rotated;
 use crate::wire::wire_of_bit;
 use crate::wire::word_from;
 
 // r is x xor y.
-pub fn xor_of_two(x: WordWires, y: WordWires, r: WordWires, l: u64) -> Form
+pub fn xor_of_two(x: WordPosition, y: WordPosition, r: WordPosition, l: u64) -> Form
     requires { ⌜ Within x × Within y × Within r × (l < 32) ⌝ }
     ensures { λ f. ⌜ (f ≡ xorOfTwo x y r l) × Fit f ⌝ }
 {
@@ -27,7 +27,7 @@ pub fn xor_of_two(x: WordWires, y: WordWires, r: WordWires, l: u64) -> Form
 }
 
 // r is y where x is 1, else z.
-pub fn choice(x: WordWires, y: WordWires, z: WordWires, r: WordWires, l: u64) -> Form
+pub fn choice(x: WordPosition, y: WordPosition, z: WordPosition, r: WordPosition, l: u64) -> Form
     requires { ⌜ Within x × Within y × Within z × Within r × (l < 32) ⌝ }
     ensures { λ f. ⌜ (f ≡ choiceOf x y z r l) × Fit f ⌝ }
 {
@@ -40,7 +40,14 @@ pub fn choice(x: WordWires, y: WordWires, z: WordWires, r: WordWires, l: u64) ->
 }
 
 // r is the xor of x, y and z, or else their majority. Each position has the bit row of r and then the equation.
-pub fn pair(xor: bool, x: WordWires, y: WordWires, z: WordWires, r: WordWires, l: u64) -> Form
+pub fn pair(
+    xor: bool,
+    x: WordPosition,
+    y: WordPosition,
+    z: WordPosition,
+    r: WordPosition,
+    l: u64,
+) -> Form
     requires { ⌜ Within x × Within y × Within z × Within r × (l < 64) ⌝ }
     ensures { λ f. ⌜ (f ≡ paired (cond xor XorOfThree Majority) x y z r l) × Fit f ⌝ }
 {
@@ -88,11 +95,11 @@ pub fn sum(addends: Addends, constant: u64, r: u64, l: u64) -> Form
 // The word from `to` on is X xor X<<<near xor X<<<far, of the word X from `from` on.
 pub fn permuted(from: u64, near: u64, far: u64, to: u64, l: u64) -> Form
     requires { ⌜ (from < 1000000) × (near < 32) × (far < 32) × (to < 1000000) × (l < 64) ⌝ }
-    ensures { λ f. ⌜ (f ≡ paired XorOfThree (standing from) (turnedBy near (standing from)) (turnedBy far (standing from)) (standing to) l) × Fit f ⌝ }
+    ensures { λ f. ⌜ (f ≡ paired XorOfThree (standing from) (rotatedBy near (standing from)) (rotatedBy far (standing from)) (standing to) l) × Fit f ⌝ }
 {
     let x = word_from(from);
-    let y = turned(near, x);
-    let z = turned(far, x);
+    let y = rotated(near, x);
+    let z = rotated(far, x);
     let r = word_from(to);
     pair(true, x, y, z, r, l)
 }

@@ -6,9 +6,9 @@ use Rattle.circuit.specs.Places.{rowCount}
 use Rattle.circuit.specs.RowAnswer.{rowAnswer}
 use Rattle.figures.specs.Figures.{Figure, table}
 use Rattle.sm3.specs.Message.{blocks}
-use Rattle.sm3.specs.Sm3.{P0, P1, constant, turnedConstant}
-use Rattle.sm3.specs.Words.{turn}
+use Rattle.sm3.specs.Sm3.{P0, P1, constant, rotatedConstant}
+use Rattle.sm3.specs.Words.{rotateLeft}
 
 pub figures : map (λ (f : Figure). f .computed) table ≡ map (λ (f : Figure). f .stated) table
-unfolding blocks wireCount rowCount rowAnswer P0 P1 turnedConstant constant turn
+unfolding blocks wireCount rowCount rowAnswer P0 P1 rotatedConstant constant rotateLeft
 figures = refl

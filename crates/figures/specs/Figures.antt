@@ -8,7 +8,7 @@ use Rattle.circuit.specs.RowAnswer.{rowAnswer, rowNumber}
 use Rattle.field.specs.Field.{p, residue}
 use Rattle.sm3.specs.Digest.{digestAnswer, digestNumber}
 use Rattle.sm3.specs.Message.{blocks}
-use Rattle.sm3.specs.Sm3.{P0, P1, turnedConstant}
+use Rattle.sm3.specs.Sm3.{P0, P1, rotatedConstant}
 
 pub record Figure : Type 0 where
   pub computed : ℕ
@@ -43,7 +43,7 @@ table =
     ∷ (P0 1 is 0x00020201)
     ∷ (P1 1 is 0x00808001)
     -- "T turned in round 1 is f3988a32, in 16 is 9d8a7a87, in 32 is 7a879d8a"
-    ∷ (turnedConstant 1 is 0xf3988a32)
-    ∷ (turnedConstant 16 is 0x9d8a7a87)
-    ∷ (turnedConstant 32 is 0x7a879d8a)
+    ∷ (rotatedConstant 1 is 0xf3988a32)
+    ∷ (rotatedConstant 16 is 0x9d8a7a87)
+    ∷ (rotatedConstant 32 is 0x7a879d8a)
     ∷ []

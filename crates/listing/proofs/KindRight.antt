@@ -10,7 +10,7 @@ use Rattle.circuit.specs.declared.form.Form.the-variants as form
 use Rattle.circuit.specs.declared.place.Step.{Step}
 use Rattle.circuit.specs.declared.place.Step.the-variants.{Start, Message, Q, P1, W, WPrime, U, Ss2, Ff, Gg, Tt1, Tt2, P0, Result, Digest}
 use Rattle.circuit.specs.declared.wire.WireNumber.{WireNumber}
-use Rattle.circuit.specs.declared.wire.WordWires.{WordWires}
+use Rattle.circuit.specs.declared.wire.WordPosition.{WordPosition}
 use Rattle.listing.specs.Steps.{equation, equationOf, kindOf, rowKind}
 use Rattle.listing.specs.declared.step.Kind.{Kind}
 use Rattle.listing.specs.declared.step.Kind.the-variants.{Fixed, Bit, XorOfTwo, XorOfThree, Majority, Choice, Sum, Equal}
@@ -25,7 +25,7 @@ message-kind :
 message-kind true l w v = refl
 message-kind false l w v = refl
 
-module _ (x y z r : WordWires) (l : ℕ) where
+module _ (x y z r : WordPosition) (l : ℕ) where
   ff-kind :
       (b : Bool)
       → rowKind (cond b XorOfThree Majority) l ≡ kindOf (paired (cond b form.XorOfThree form.Majority) x y z r l)

@@ -9,12 +9,12 @@ use borrow.Author.Tests.{ltb-true}
 use lib.Bits.{and-lt, or-lt, xor-lt}
 use lib.Dec.{eqb, lit<, ltb}
 use lib.ListN.{getD}
-use Rattle.sm3.specs.Message.{blocks, chain, digestOf, message}
-use Rattle.sm3.specs.Sm3.{_⊕_, FF, GG, P0, P1, block, blockWord, choice, constant, dropped, expanded, expansion, extended, majority, mixed, nextWord, pairWord, roundOf, rounds, start, turnedConstant, xorState}
-use Rattle.sm3.specs.Words.{turn}
+use Rattle.sm3.specs.Message.{blocks, chainingValue, digestOf, message}
+use Rattle.sm3.specs.Sm3.{_⊕_, FF, GG, P0, P1, block, blockWord, choice, constant, dropped, expanded, expansion, extended, majority, mixed, nextWord, pairWord, roundOf, rounds, start, rotatedConstant, xorState}
+use Rattle.sm3.specs.Words.{rotateLeft}
 use Rattle.sm3.specs.declared.state.State.{State}
 use Rattle.sm3.proofs.Numbers.{number-lt}
-use Rattle.sm3.proofs.Turn.{turn-lt}
+use Rattle.sm3.proofs.Rotation.{rotate-lt}
 
 -- both cases of a test are below m
 cond-lt : (t : Bool) (x y m : ℕ) → (t ≡ true → x < m) → (t ≡ false → y < m) → cond t x y < m
@@ -46,19 +46,19 @@ GG-lt j x y z hx hy hz = cond-lt (ltb j 16) _ _ (2 ^ 32) (λ t. xor-3-lt x y z h
 
 pub P0-lt : (x : ℕ) → x < 2 ^ 32 → P0 x < 2 ^ 32
 unfolding P0
-P0-lt x h = xor-3-lt x (turn 9 x) (turn 17 x) h (turn-lt 9 x (omega arith) h) (turn-lt 17 x (omega arith) h)
+P0-lt x h = xor-3-lt x (rotateLeft 9 x) (rotateLeft 17 x) h (rotate-lt 9 x (omega arith) h) (rotate-lt 17 x (omega arith) h)
 
 pub P1-lt : (x : ℕ) → x < 2 ^ 32 → P1 x < 2 ^ 32
 unfolding P1
-P1-lt x h = xor-3-lt x (turn 15 x) (turn 23 x) h (turn-lt 15 x (omega arith) h) (turn-lt 23 x (omega arith) h)
+P1-lt x h = xor-3-lt x (rotateLeft 15 x) (rotateLeft 23 x) h (rotate-lt 15 x (omega arith) h) (rotate-lt 23 x (omega arith) h)
 
 constant-lt : (j : ℕ) → constant j < 2 ^ 32
 unfolding constant
 constant-lt j = cond-lt (ltb j 16) _ _ (2 ^ 32) (λ t. lit< tt) (λ t. lit< tt)
 
-pub turnedConstant-lt : (j : ℕ) → turnedConstant j < 2 ^ 32
-unfolding turnedConstant
-turnedConstant-lt j = turn-lt (j % 32) (constant j) (omega arith) (constant-lt j)
+pub rotatedConstant-lt : (j : ℕ) → rotatedConstant j < 2 ^ 32
+unfolding rotatedConstant
+rotatedConstant-lt j = rotate-lt (j % 32) (constant j) (omega arith) (constant-lt j)
 
 -- The words of an expansion.
 
@@ -74,11 +74,11 @@ all-snoc (y ∷ w) x hw hx (suc k) = all-snoc w x (λ k. hw (suc k)) hx k
 
 mixed-lt : (w : List ℕ) (j : ℕ) → AllWords w → mixed w j < 2 ^ 32
 unfolding mixed
-mixed-lt w j hw = xor-3-lt _ _ _ (hw (j - 16)) (hw (j - 9)) (turn-lt 15 _ (omega arith) (hw (j - 3)))
+mixed-lt w j hw = xor-3-lt _ _ _ (hw (j - 16)) (hw (j - 9)) (rotate-lt 15 _ (omega arith) (hw (j - 3)))
 
 expanded-lt : (w : List ℕ) (j : ℕ) → AllWords w → expanded w j < 2 ^ 32
 unfolding expanded
-expanded-lt w j hw = xor-3-lt _ _ _ (P1-lt _ (mixed-lt w j hw)) (turn-lt 7 _ (omega arith) (hw (j - 13))) (hw (j - 6))
+expanded-lt w j hw = xor-3-lt _ _ _ (P1-lt _ (mixed-lt w j hw)) (rotate-lt 7 _ (omega arith) (hw (j - 13))) (hw (j - 6))
 
 pub pairWord-lt : (w : List ℕ) (j : ℕ) → AllWords w → pairWord w j < 2 ^ 32
 unfolding pairWord
@@ -132,11 +132,11 @@ round-words j word pair s w =
     record {
       a = dropped-lt _;
       b = w .a;
-      c = turn-lt 9 (s .b) (omega arith) (w .b);
+      c = rotate-lt 9 (s .b) (omega arith) (w .b);
       d = w .c;
       e = P0-lt _ (dropped-lt _);
       f = w .e;
-      g = turn-lt 19 (s .f) (omega arith) (w .f);
+      g = rotate-lt 19 (s .f) (omega arith) (w .f);
       h = w .g;
     }
 
@@ -163,11 +163,11 @@ pub block-words : (bits : ℕ → ℕ) (v : State) → Words v → Words (block 
 unfolding block
 block-words bits v hv = xor-words _ v (rounds-words (expansion bits 68) v hv 64) hv
 
-pub chain-words : (m : ℕ → ℕ) (i : ℕ) → Words (chain m i)
-unfolding chain
-chain-words m zero = start-words
-chain-words m (suc i) = block-words _ (chain m i) (chain-words m i)
+pub chaining-words : (m : ℕ → ℕ) (i : ℕ) → Words (chainingValue m i)
+unfolding chainingValue
+chaining-words m zero = start-words
+chaining-words m (suc i) = block-words _ (chainingValue m i) (chaining-words m i)
 
 pub digest-words : (n : ℕ) (r : ℕ → ℕ) → Words (digestOf n r)
 unfolding digestOf
-digest-words n r = chain-words _ _
+digest-words n r = chaining-words _ _

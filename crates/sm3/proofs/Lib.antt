@@ -5,5 +5,5 @@ pub mod Front
 pub mod Numbers
 pub mod Sums
 pub mod Tab
-pub mod Turn
+pub mod Rotation
 pub mod Writes

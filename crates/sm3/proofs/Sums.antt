@@ -6,20 +6,20 @@ use native.Mathlib.Omega.{arith}
 use lib.Bits.{xor-lt}
 use Rattle.sm3.specs.Sm3.{SS1, SS2, dropped, sumTT1, sumTT2, sumU}
 use Rattle.sm3.specs.declared.state.State.{State}
-use Rattle.sm3.proofs.Bounds.{FF-lt, GG-lt, Words, dropped-lt, turnedConstant-lt}
-use Rattle.sm3.proofs.Turn.{turn-lt}
+use Rattle.sm3.proofs.Bounds.{FF-lt, GG-lt, Words, dropped-lt, rotatedConstant-lt}
+use Rattle.sm3.proofs.Rotation.{rotate-lt}
 
 pub SS1-lt : (j : ℕ) (s : State) → SS1 j s < 2 ^ 32
 unfolding SS1
-SS1-lt j s = turn-lt 7 _ (omega arith) (dropped-lt (sumU j s))
+SS1-lt j s = rotate-lt 7 _ (omega arith) (dropped-lt (sumU j s))
 
 pub SS2-lt : (j : ℕ) (s : State) → Words s → SS2 j s < 2 ^ 32
 unfolding SS2
-SS2-lt j s w = xor-lt 32 _ _ (SS1-lt j s) (turn-lt 12 (s .a) (omega arith) (w .a))
+SS2-lt j s w = xor-lt 32 _ _ (SS1-lt j s) (rotate-lt 12 (s .a) (omega arith) (w .a))
 
 pub sumU-lt : (j : ℕ) (s : State) → Words s → sumU j s < 2 ^ 34
 unfolding sumU
-sumU-lt j s w = omega (arith, turn-lt 12 (s .a) (omega arith) (w .a), turnedConstant-lt j)
+sumU-lt j s w = omega (arith, rotate-lt 12 (s .a) (omega arith) (w .a), rotatedConstant-lt j)
 
 pub sumTT1-lt : (j pair : ℕ) (s : State) → pair < 2 ^ 32 → Words s → sumTT1 j pair s < 2 ^ 34
 unfolding sumTT1

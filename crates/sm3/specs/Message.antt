@@ -29,13 +29,13 @@ unfoldable pub blockBits : (ℕ → ℕ) → ℕ → ℕ → ℕ
 blockBits m i k = m (512 * i + k)
 
 -- "Block 0 begins with the start words, each later block with the result of the one before": what block i begins with
-unfoldable pub chain : (ℕ → ℕ) → ℕ → State
-chain m zero = start
-chain m (suc i) = block (blockBits m i) (chain m i)
+unfoldable pub chainingValue : (ℕ → ℕ) → ℕ → State
+chainingValue m zero = start
+chainingValue m (suc i) = block (blockBits m i) (chainingValue m i)
 
 -- "the last result is the digest", of n bits
 unfoldable pub digestOf : ℕ → (ℕ → ℕ) → State
-digestOf n r = chain (message n r) (blocks n)
+digestOf n r = chainingValue (message n r) (blocks n)
 
 -- "in .. digests the highest byte of a word .. come[s] first": the 4 bytes of a word, the 32 bytes of eight words
 unfoldable pub bytesOfWord : ℕ → List ℕ

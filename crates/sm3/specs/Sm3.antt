@@ -6,7 +6,7 @@ use Prim.Native.Nat.{ℕ, zero, suc, _+_, _-_, _*_, _/_, _%_, _^_}
 use lib.Bits.{bitXor, bitAnd, bitOr}
 use lib.Dec.{ltb}
 use lib.ListN.{getD}
-use Rattle.sm3.specs.Words.{number, turn}
+use Rattle.sm3.specs.Words.{number, rotateLeft}
 use Rattle.sm3.specs.declared.state.State.{State}
 
 infixl 60 _⊕_
@@ -37,26 +37,26 @@ unfoldable pub constant : ℕ → ℕ
 constant j = cond (ltb j 16) 0x79cc4519 0x7a879d8a
 
 -- "T<<<(j mod 32)"
-unfoldable pub turnedConstant : ℕ → ℕ
-turnedConstant j = turn (j % 32) (constant j)
+unfoldable pub rotatedConstant : ℕ → ℕ
+rotatedConstant j = rotateLeft (j % 32) (constant j)
 
 -- "P0(X) = X xor X<<<9 xor X<<<17"
 unfoldable pub P0 : ℕ → ℕ
-P0 x = x ⊕ turn 9 x ⊕ turn 17 x
+P0 x = x ⊕ rotateLeft 9 x ⊕ rotateLeft 17 x
 
 -- "P1(X) = X xor X<<<15 xor X<<<23"
 unfoldable pub P1 : ℕ → ℕ
-P1 x = x ⊕ turn 15 x ⊕ turn 23 x
+P1 x = x ⊕ rotateLeft 15 x ⊕ rotateLeft 23 x
 
 -- Expansion. `w` is the list of the words from W0 on.
 
 -- "q = W(j-16) xor W(j-9) xor W(j-3)<<<15"
 unfoldable pub mixed : List ℕ → ℕ → ℕ
-mixed w j = getD w (j - 16) 0 ⊕ getD w (j - 9) 0 ⊕ turn 15 (getD w (j - 3) 0)
+mixed w j = getD w (j - 16) 0 ⊕ getD w (j - 9) 0 ⊕ rotateLeft 15 (getD w (j - 3) 0)
 
 -- "Wj = P1(q) xor W(j-13)<<<7 xor W(j-6)"
 unfoldable pub expanded : List ℕ → ℕ → ℕ
-expanded w j = P1 (mixed w j) ⊕ turn 7 (getD w (j - 13) 0) ⊕ getD w (j - 6) 0
+expanded w j = P1 (mixed w j) ⊕ rotateLeft 7 (getD w (j - 13) 0) ⊕ getD w (j - 6) 0
 
 -- "W0 to W15 are the block": word j of a block's 512 bits
 unfoldable pub blockWord : (ℕ → ℕ) → ℕ → ℕ
@@ -96,15 +96,15 @@ GG j x y z = cond (ltb j 16) (x ⊕ y ⊕ z) (choice x y z)
 
 -- "u = A<<<12 + E + T<<<(j mod 32)", with nothing dropped
 unfoldable pub sumU : ℕ → State → ℕ
-sumU j s = turn 12 (s .a) + s .e + turnedConstant j
+sumU j s = rotateLeft 12 (s .a) + s .e + rotatedConstant j
 
 -- "SS1 = u<<<7"
 unfoldable pub SS1 : ℕ → State → ℕ
-SS1 j s = turn 7 (dropped (sumU j s))
+SS1 j s = rotateLeft 7 (dropped (sumU j s))
 
 -- "SS2 = SS1 xor A<<<12"
 unfoldable pub SS2 : ℕ → State → ℕ
-SS2 j s = SS1 j s ⊕ turn 12 (s .a)
+SS2 j s = SS1 j s ⊕ rotateLeft 12 (s .a)
 
 -- "TT1 = FF + D + SS2 + W'j", with nothing dropped; `pair` is W'j
 unfoldable pub sumTT1 : ℕ → ℕ → State → ℕ
@@ -120,11 +120,11 @@ roundOf j word pair s =
     record {
       a = dropped (sumTT1 j pair s);
       b = s .a;
-      c = turn 9 (s .b);
+      c = rotateLeft 9 (s .b);
       d = s .c;
       e = P0 (dropped (sumTT2 j word s));
       f = s .e;
-      g = turn 19 (s .f);
+      g = rotateLeft 19 (s .f);
       h = s .g;
     }
 

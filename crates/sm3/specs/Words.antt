@@ -12,9 +12,9 @@ unfoldable pub number : ℕ → (ℕ → ℕ) → ℕ
 number zero b = 0
 number (suc n) b = number n b * 2 + b n
 
--- "`<<<` turns left": the word x turned by k bits, k at most 32
-unfoldable pub turn : ℕ → ℕ → ℕ
-turn k x = x * 2 ^ k % 2 ^ 32 + x / 2 ^ (32 - k)
+-- "`<<<` turns left": the word x rotated by k bits, k at most 32
+unfoldable pub rotateLeft : ℕ → ℕ → ℕ
+rotateLeft k x = x * 2 ^ k % 2 ^ 32 + x / 2 ^ (32 - k)
 
 -- a sequence's first n places as a list
 unfoldable pub tab : {A : Type 0} → ℕ → (ℕ → A) → List A

@@ -1,7 +1,7 @@
 // The constants of the rounds.
 ghost use mathlib.Core.Path.{_≡_};
 ghost use Prim.Native.Nat.{_<_};
-ghost use Rattle.sm3.specs.Sm3.{start, turnedConstant, wordOf};
+ghost use Rattle.sm3.specs.Sm3.{start, rotatedConstant, wordOf};
 ghost use Rattle.sm3.specs.Words.{tab};
 use crate::state::State;
 
@@ -17,8 +17,8 @@ const START: [u32; 8] = [
     0xb0fb0e4e,
 ];
 
-// T of each round, already turned left by j mod 32.
-const TURNED: [u32; 64] = [
+// T of each round, already rotated left by j mod 32.
+const ROTATED: [u32; 64] = [
     0x79cc4519,
     0xf3988a32,
     0xe7311465,
@@ -101,11 +101,11 @@ pub fn start_state() -> State
     }
 }
 
-// T of all rounds, turned. The table is made once a digest and lent to every round.
-pub fn turned_constants() -> [u32; 64]
-    ensures { λ r. ⌜ r ≡ tab 64 turnedConstant ⌝ }
+// T of all rounds, rotated. The table is made once a digest and lent to every round.
+pub fn rotated_constants() -> [u32; 64]
+    ensures { λ r. ⌜ r ≡ tab 64 rotatedConstant ⌝ }
 {
-    TURNED
+    ROTATED
 }
 
 // Word k of those that block 0 begins with.
@@ -116,11 +116,11 @@ pub fn start_word(k: usize) -> u32
     START[k]
 }
 
-// T of round j, turned.
-pub fn turned_constant(j: usize) -> u32
+// T of round j, rotated.
+pub fn rotated_constant(j: usize) -> u32
     requires { ⌜ j < 64 ⌝ }
-    ensures { λ r. ⌜ r ≡ turnedConstant j ⌝ }
+    ensures { λ r. ⌜ r ≡ rotatedConstant j ⌝ }
 {
-    let t = turned_constants();
+    let t = rotated_constants();
     t[j]
 }

@@ -6,7 +6,7 @@ ghost use Rattle.sm3.specs.Message.{bitOfBytes};
 ghost use Rattle.sm3.specs.Sm3.{expanded, expansion};
 ghost use Rattle.sm3.specs.Words.{number};
 use crate::words::p1;
-use crate::words::turn_left;
+use crate::words::rotate_left;
 
 // A byte as a word.
 fn wide(x: u8) -> u32
@@ -43,8 +43,8 @@ fn expanded_word(w: &[u32; 68], j: usize) -> u32
     requires { ⌜ (16 ≤ j) × (j < 68) ⌝ }
     ensures { λ r. ⌜ r ≡ expanded (now (w .entry)) j ⌝ }
 {
-    let q = w[j - 16] ^ w[j - 9] ^ turn_left(w[j - 3], 15);
-    p1(q) ^ turn_left(w[j - 13], 7) ^ w[j - 6]
+    let q = w[j - 16] ^ w[j - 9] ^ rotate_left(w[j - 3], 15);
+    p1(q) ^ rotate_left(w[j - 13], 7) ^ w[j - 6]
 }
 
 // The four words from Wj on, from those before them.

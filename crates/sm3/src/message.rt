@@ -2,12 +2,12 @@
 ghost use mathlib.Core.Path.{_≡_};
 ghost use Prim.Native.Nat.{ℕ, _+_, _*_, _/_, _%_, _<_, _≤_};
 ghost use lib.ListN.{length, getD, set, take};
-ghost use Rattle.sm3.specs.Message.{bitOfBytes, blocks, blockBits, chain, digestOf, message};
-ghost use Rattle.sm3.specs.Sm3.{block, expansion, turnedConstant};
+ghost use Rattle.sm3.specs.Message.{bitOfBytes, blocks, blockBits, chainingValue, digestOf, message};
+ghost use Rattle.sm3.specs.Sm3.{block, expansion, rotatedConstant};
 ghost use Rattle.sm3.specs.Words.{tab};
 use crate::block::compress;
+use crate::constants::rotated_constants;
 use crate::constants::start_state;
-use crate::constants::turned_constants;
 use crate::expansion::block_words;
 use crate::state::State;
 
@@ -69,7 +69,7 @@ pub fn message_words(bytes: &[u8], i: usize) -> [u32; 68]
 
 // What block i + 1 begins with, where block i begins with v.
 fn next_state(v: State, bytes: &[u8], i: usize, t: &[u32; 64]) -> State
-    requires { ⌜ (length (now bytes) ≤ 1015) × (i < blocks (8 * length (now bytes))) × (now t ≡ tab 64 turnedConstant) ⌝ }
+    requires { ⌜ (length (now bytes) ≤ 1015) × (i < blocks (8 * length (now bytes))) × (now t ≡ tab 64 rotatedConstant) ⌝ }
     ensures { λ r. ⌜ r ≡ block (blockBits (message (8 * length (now (bytes .entry))) (bitOfBytes (now (bytes .entry)))) i) v ⌝ }
 {
     compress(v, message_words(bytes, i), t)
@@ -81,7 +81,7 @@ pub fn hash(bytes: &[u8]) -> State
     ensures { λ r. ⌜ r ≡ digestOf (8 * length (now (bytes .entry))) (bitOfBytes (now (bytes .entry))) ⌝ }
 {
     let n = (bytes.len() + 8) / 64 + 1;
-    let t = turned_constants();
+    let t = rotated_constants();
     let mut v = start_state();
     for i in 0..n {
         v = next_state(v, bytes, i, &t);

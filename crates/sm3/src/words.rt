@@ -1,13 +1,13 @@
 // The standard's functions on words of 32 bits.
 ghost use mathlib.Core.Path.{_≡_};
 ghost use Prim.Native.Nat.{_+_, _%_, _^_, _<_};
-ghost use Rattle.sm3.specs.Words.{turn};
+ghost use Rattle.sm3.specs.Words.{rotateLeft};
 ghost use Rattle.sm3.specs.Sm3.{_⊕_, P0, P1, majority, choice, dropped};
 
-// x turned left by k bits.
-pub fn turn_left(x: u32, k: u32) -> u32
+// x rotated left by k bits.
+pub fn rotate_left(x: u32, k: u32) -> u32
     requires { ⌜ (0 < k) × (k < 32) ⌝ }
-    ensures { λ r. ⌜ r ≡ turn k x ⌝ }
+    ensures { λ r. ⌜ r ≡ rotateLeft k x ⌝ }
 {
     (x << k) | (x >> (32 - k))
 }
@@ -16,14 +16,14 @@ pub fn turn_left(x: u32, k: u32) -> u32
 pub fn p0(x: u32) -> u32
     ensures { λ r. ⌜ r ≡ P0 x ⌝ }
 {
-    x ^ turn_left(x, 9) ^ turn_left(x, 17)
+    x ^ rotate_left(x, 9) ^ rotate_left(x, 17)
 }
 
 // P1, which the expansion applies to q.
 pub fn p1(x: u32) -> u32
     ensures { λ r. ⌜ r ≡ P1 x ⌝ }
 {
-    x ^ turn_left(x, 15) ^ turn_left(x, 23)
+    x ^ rotate_left(x, 15) ^ rotate_left(x, 23)
 }
 
 // FF of the rounds from 16 on: at each place what two or three of the bits are.

@@ -14,12 +14,12 @@ use Rattle.assignment.specs.declared.check.CheckAnswer.{CheckAnswer}
 use Rattle.assignment.specs.declared.check.CheckAnswer.the-variants.{Accepted, Unsatisfied}
 use Rattle.circuit.proofs.FlatAll.{all-front}
 use Rattle.circuit.proofs.Shape.{letters-within}
-use Rattle.circuit.proofs.Values.{value-nonzero, value-tidy}
+use Rattle.circuit.proofs.Values.{value-nonzero, value-normal}
 use Rattle.circuit.specs.Circuit.{formAt, formOf, rowAt}
 use Rattle.circuit.specs.Layout.{wireCount}
 use Rattle.circuit.specs.Places.{placeAt, rowCount}
 use Rattle.circuit.specs.Rows
-use Rattle.circuit.specs.Rows.{Row, letters, nonzero, rowOf, tidy, value}
+use Rattle.circuit.specs.Rows.{Row, letters, nonzero, rowOf, normalForm, value}
 use Rattle.circuit.specs.Terms.{Filled, unsorted}
 use Rattle.circuit.specs.declared.form.Form.{Form}
 use Rattle.circuit.specs.declared.form.Term.{Term}
@@ -32,7 +32,7 @@ holds-letters : (e : ℕ → ℕ) (f : Form) → holds e (unsorted f) ≡ holds 
 unfolding holds rowOf unsorted
 holds-letters e f =
     let row = letters f in
-    let same : (us : List Term) → value e (nonzero us) ≡ value e (tidy us) = λ us. value-nonzero e us ∙ sym (value-tidy e us) in
+    let same : (us : List Term) → value e (nonzero us) ≡ value e (normalForm us) = λ us. value-nonzero e us ∙ sym (value-normal e us) in
     ap₂ eqb (ap₂ (λ x y. (x * y) % p) (same (row .A)) (same (row .B))) (ap (λ v. v % p) (same (row .C)))
 
 -- Row k of a record of n bits at its place q, whose terms were filled in.

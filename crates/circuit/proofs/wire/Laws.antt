@@ -1,28 +1,28 @@
 -- Where A to H stand before round j. A to D move on by one place a round, and so do E to H: word `lag` of such four is the
--- first word of `lag` rounds before, or one that the block began with, and it is turned on its way from place 1 to place 2.
+-- first word of `lag` rounds before, or one that the block began with, and it is rotated on its way from place 1 to place 2.
 use mathlib.Core.Path.{_≡_, refl, sym, ap, subst, _∙_}
 use Prim.Native.Nat.{ℕ, zero, suc, _+_, _-_, _*_, _/_, _%_, _<_, _≤_}
 use native.Mathlib.Nat.{div-add-mod}
 use native.Mathlib.Omega.{arith}
 use Rattle.circuit.specs.Circuit.{stateWord}
-use Rattle.circuit.specs.Wires.{eightFrom, moved, p0First, standing, stands, tt1First, turnedBy}
-use Rattle.circuit.specs.declared.wire.WordWires.{WordWires}
+use Rattle.circuit.specs.Wires.{eightFrom, moved, p0First, standing, stands, tt1First, rotatedBy}
+use Rattle.circuit.specs.declared.wire.WordPosition.{WordPosition}
 
 -- x is word `lag` of four before round j. The four began with the words from wire `base` on, round j makes the one that
 -- stands from wire made + 230 * j on, and the turn is by t.
-pub record Placed (base made t j lag : ℕ) (x : WordWires) : Type 0 where
+pub record Placed (base made t j lag : ℕ) (x : WordPosition) : Type 0 where
   pub begun : j ≤ lag → x .first .0 ≡ base + 32 * (lag - j)
   pub later : lag < j → x .first .0 ≡ made + 230 * (j - 1 - lag)
-  pub straight : lag < 2 → x .turn ≡ 0
-  pub early : j + 2 ≤ lag → x .turn ≡ 0
-  pub turned : 2 ≤ lag → lag < j + 2 → x .turn ≡ t
+  pub straight : lag < 2 → x .rotation ≡ 0
+  pub early : j + 2 ≤ lag → x .rotation ≡ 0
+  pub rotated : 2 ≤ lag → lag < j + 2 → x .rotation ≡ t
 
 -- Four words that move on by one place a round.
-record Four (base made t : ℕ) (x : ℕ → ℕ → WordWires) : Type 0 where
+record Four (base made t : ℕ) (x : ℕ → ℕ → WordPosition) : Type 0 where
   starts : (lag : ℕ) → lag < 4 → x 0 lag ≡ standing (base + 32 * lag)
   makes : (j : ℕ) → x (suc j) 0 ≡ standing (made + 230 * j)
   second : (j : ℕ) → x (suc j) 1 ≡ x j 0
-  turns : (j : ℕ) → x (suc j) 2 ≡ turnedBy t (x j 1)
+  turns : (j : ℕ) → x (suc j) 2 ≡ rotatedBy t (x j 1)
   fourth : (j : ℕ) → x (suc j) 3 ≡ x j 2
 
 module _ (base made t : ℕ) (l : t < 32) where
@@ -33,7 +33,7 @@ module _ (base made t : ℕ) (l : t < 32) where
         later = λ h. absurd (omega arith);
         straight = λ h. refl;
         early = λ h. refl;
-        turned = λ h k. absurd (omega arith);
+        rotated = λ h k. absurd (omega arith);
       }
 
   placed-made : (j : ℕ) → Placed base made t (suc j) 0 (standing (made + 230 * j))
@@ -43,30 +43,30 @@ module _ (base made t : ℕ) (l : t < 32) where
         later = λ h. omega arith;
         straight = λ h. refl;
         early = λ h. refl;
-        turned = λ h k. absurd (omega arith);
+        rotated = λ h k. absurd (omega arith);
       }
 
-  placed-moved : (j lag : ℕ) (x : WordWires) → (lag ≡ 1 → ⊥) → Placed base made t j lag x → Placed base made t (suc j) (suc lag) x
+  placed-moved : (j lag : ℕ) (x : WordPosition) → (lag ≡ 1 → ⊥) → Placed base made t j lag x → Placed base made t (suc j) (suc lag) x
   placed-moved j lag x n p =
       record {
         begun = λ h. omega (arith, p .begun (omega arith));
         later = λ h. omega (arith, p .later (omega arith));
         straight = λ h. p .straight (omega arith);
         early = λ h. p .early (omega arith);
-        turned = λ h k. p .turned (omega arith) (omega arith);
+        rotated = λ h k. p .rotated (omega arith) (omega arith);
       }
 
-  placed-turned : (j : ℕ) (x : WordWires) → Placed base made t j 1 x → Placed base made t (suc j) 2 (turnedBy t x)
-  placed-turned j x p =
+  placed-rotated : (j : ℕ) (x : WordPosition) → Placed base made t j 1 x → Placed base made t (suc j) 2 (rotatedBy t x)
+  placed-rotated j x p =
       record {
         begun = λ h. omega (arith, p .begun (omega arith));
         later = λ h. omega (arith, p .later (omega arith));
         straight = λ h. absurd (omega arith);
         early = λ h. absurd (omega arith);
-        turned = λ h k. omega (arith, p .straight (omega arith));
+        rotated = λ h k. omega (arith, p .straight (omega arith));
       }
 
-  four-placed : (x : ℕ → ℕ → WordWires) → Four base made t x → (j lag : ℕ) → lag < 4 → Placed base made t j lag (x j lag)
+  four-placed : (x : ℕ → ℕ → WordPosition) → Four base made t x → (j lag : ℕ) → lag < 4 → Placed base made t j lag (x j lag)
   four-placed x f zero lag h = subst (Placed base made t 0 lag) (sym (f .starts lag h)) (placed-start lag)
   four-placed x f (suc j) zero h = subst (Placed base made t (suc j) 0) (sym (f .makes j)) (placed-made j)
   four-placed x f (suc j) (suc zero) h =
@@ -74,7 +74,7 @@ module _ (base made t : ℕ) (l : t < 32) where
       (placed-moved j 0 (x j 0) (omega arith) (four-placed x f j 0 (omega arith)))
   four-placed x f (suc j) (suc (suc zero)) h =
       subst (Placed base made t (suc j) 2) (sym (f .turns j))
-      (placed-turned j (x j 1) (four-placed x f j 1 (omega arith)))
+      (placed-rotated j (x j 1) (four-placed x f j 1 (omega arith)))
   four-placed x f (suc j) (suc (suc (suc zero))) h =
       subst (Placed base made t (suc j) 3) (sym (f .fourth j))
       (placed-moved j 2 (x j 2) (omega arith) (four-placed x f j 2 (omega arith)))
@@ -95,7 +95,7 @@ eight-word w (suc (suc (suc (suc (suc (suc (suc (suc k)))))))) h = absurd (omega
 
 module _ (F w : ℕ) where
   -- word `lag` of A to D, and of E to H
-  wordOfHalf : ℕ → ℕ → ℕ → WordWires
+  wordOfHalf : ℕ → ℕ → ℕ → WordPosition
   wordOfHalf half j lag = stateWord (stands F (eightFrom w) j) (4 * half + lag)
 
   half-starts : (half lag : ℕ) → half < 2 → lag < 4 → wordOfHalf half 0 lag ≡ standing (w + 128 * half + 32 * lag)
@@ -124,7 +124,7 @@ module _ (F w : ℕ) where
       }
   half-moves (suc (suc half)) h = absurd (omega arith)
 
-  abbrev pub PlacedHalf : ℕ → ℕ → ℕ → WordWires → Type 0
+  abbrev pub PlacedHalf : ℕ → ℕ → ℕ → WordPosition → Type 0
   PlacedHalf half j lag x = Placed (w + 128 * half) (F + 7682 + 68 * half) (9 + 10 * half) j lag x
 
   pub word-placed : (j k : ℕ) → k < 8 → PlacedHalf (k / 4) j (k % 4) (stateWord (stands F (eightFrom w) j) k)
@@ -134,6 +134,6 @@ module _ (F w : ℕ) where
       (four-placed _ _ _ (omega arith) (wordOfHalf (k / 4)) (half-moves (k / 4) (omega arith)) j (k % 4) (omega arith))
 
 -- a word is known by its first wire and its turn
-pub word-known : (x : WordWires) (w t : ℕ) → w ≡ x .first .0 → x .turn ≡ t
-    → _≡_ {A = WordWires} (record { first = record { 0 = w }; turn = t }) x
-word-known x w t e f = λ i. record { first = record { 0 = e i }; turn = sym f i }
+pub word-known : (x : WordPosition) (w t : ℕ) → w ≡ x .first .0 → x .rotation ≡ t
+    → _≡_ {A = WordPosition} (record { first = record { 0 = w }; rotation = t }) x
+word-known x w t e f = λ i. record { first = record { 0 = e i }; rotation = sym f i }

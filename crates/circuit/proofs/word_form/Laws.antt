@@ -10,9 +10,9 @@ use Rattle.circuit.specs.declared.form.Addends.{Addends}
 use Rattle.circuit.specs.declared.form.Form.{Form}
 use Rattle.circuit.specs.declared.form.Form.the-variants.{Bit}
 use Rattle.circuit.specs.declared.wire.WireNumber.{WireNumber}
-use Rattle.circuit.specs.declared.wire.WordWires.{WordWires}
+use Rattle.circuit.specs.declared.wire.WordPosition.{WordPosition}
 
-module _ (equation : WireNumber → WireNumber → WireNumber → WireNumber → Form) (x y z r : WordWires) (l : ℕ) where
+module _ (equation : WireNumber → WireNumber → WireNumber → WireNumber → Form) (x y z r : WordPosition) (l : ℕ) where
   pub paired-bit : {w : WireNumber} → l % 2 ≡ 0 → w ≡ wireAt r (l / 2) → Bit w ≡ paired equation x y z r l
   unfolding paired
   paired-bit h e = rw (eq-eqb (l % 2) 0 h) (ap Bit e)
@@ -29,23 +29,23 @@ sum-bit s t k k' r l h = rw (lt-ltb l 34 h)
 
 -- A form of words is the form of words equal to them.
 
-pub same-xor : (l : ℕ) {f : Form} {x x' y y' r r' : WordWires} → (f ≡ xorOfTwo x y r l) × Fit f → x ≡ x' → y ≡ y' → r ≡ r'
+pub same-xor : (l : ℕ) {f : Form} {x x' y y' r r' : WordPosition} → (f ≡ xorOfTwo x y r l) × Fit f → x ≡ x' → y ≡ y' → r ≡ r'
     → (f ≡ xorOfTwo x' y' r' l) × Fit f
 same-xor l e ex ey er = (e .0 ∙ (λ i. xorOfTwo (ex i) (ey i) (er i) l), e .1)
 
-pub same-choice : (l : ℕ) {f : Form} {x x' y y' z z' r r' : WordWires} → (f ≡ choiceOf x y z r l) × Fit f → x ≡ x' → y ≡ y'
+pub same-choice : (l : ℕ) {f : Form} {x x' y y' z z' r r' : WordPosition} → (f ≡ choiceOf x y z r l) × Fit f → x ≡ x' → y ≡ y'
     → z ≡ z' → r ≡ r' → (f ≡ choiceOf x' y' z' r' l) × Fit f
 same-choice l e ex ey ez er = (e .0 ∙ (λ i. choiceOf (ex i) (ey i) (ez i) (er i) l), e .1)
 
 pub same-pair : (equation : WireNumber → WireNumber → WireNumber → WireNumber → Form) (l : ℕ) {f : Form}
-    {x x' y y' z z' r r' : WordWires} → (f ≡ paired equation x y z r l) × Fit f → x ≡ x' → y ≡ y' → z ≡ z' → r ≡ r'
+    {x x' y y' z z' r r' : WordPosition} → (f ≡ paired equation x y z r l) × Fit f → x ≡ x' → y ≡ y' → z ≡ z' → r ≡ r'
     → (f ≡ paired equation x' y' z' r' l) × Fit f
 same-pair equation l e ex ey ez er = (e .0 ∙ (λ i. paired equation (ex i) (ey i) (ez i) (er i) l), e .1)
 
-pub same-sum-of-two : (r l : ℕ) {f : Form} {x x' y y' : WordWires} {k k' : ℕ} → (f ≡ summed (two x y) k r l) × Fit f → x ≡ x'
+pub same-sum-of-two : (r l : ℕ) {f : Form} {x x' y y' : WordPosition} {k k' : ℕ} → (f ≡ summed (two x y) k r l) × Fit f → x ≡ x'
     → y ≡ y' → k ≡ k' → (f ≡ summed (two x' y') k' r l) × Fit f
 same-sum-of-two r l e ex ey ek = (e .0 ∙ (λ i. summed (two (ex i) (ey i)) (ek i) r l), e .1)
 
-pub same-sum-of-four : (k r l : ℕ) {f : Form} {x x' y y' z z' t t' : WordWires} → (f ≡ summed (four x y z t) k r l) × Fit f
+pub same-sum-of-four : (k r l : ℕ) {f : Form} {x x' y y' z z' t t' : WordPosition} → (f ≡ summed (four x y z t) k r l) × Fit f
     → x ≡ x' → y ≡ y' → z ≡ z' → t ≡ t' → (f ≡ summed (four x' y' z' t') k r l) × Fit f
 same-sum-of-four k r l e ex ey ez et = (e .0 ∙ (λ i. summed (four (ex i) (ey i) (ez i) (et i)) k r l), e .1)

@@ -6,7 +6,7 @@ ghost use Rattle.circuit.specs.Terms.{Fit};
 ghost use Rattle.circuit.specs.declared.place.Step.the-variants.{P1, Q, W, WPrime};
 use crate::form::Form;
 use crate::wire::expanded_word;
-use crate::wire::turned;
+use crate::wire::rotated;
 use crate::wire::word_from;
 use crate::word_form::pair;
 use crate::word_form::permuted;
@@ -19,7 +19,7 @@ pub fn q_form(first: u64, j: u64, l: u64) -> Form
 {
     let x = expanded_word(first, j - 16);
     let y = expanded_word(first, j - 9);
-    let z = turned(15, expanded_word(first, j - 3));
+    let z = rotated(15, expanded_word(first, j - 3));
     let r = word_from(first + 512 + 96 * (j - 16));
     pair(true, x, y, z, r, l)
 }
@@ -39,7 +39,7 @@ pub fn w_form(first: u64, j: u64, l: u64) -> Form
     ensures { λ f. ⌜ (f ≡ wForm first j l) × Fit f ⌝ }
 {
     let x = word_from(first + 512 + 96 * (j - 16) + 32);
-    let y = turned(7, expanded_word(first, j - 13));
+    let y = rotated(7, expanded_word(first, j - 13));
     let z = expanded_word(first, j - 6);
     let r = expanded_word(first, j);
     pair(true, x, y, z, r, l)

@@ -8,7 +8,7 @@ ghost use Rattle.circuit.specs.declared.place.Step.the-variants.{Ff, Gg,
 use crate::form::Addends;
 use crate::form::Form;
 use crate::wire::expanded_word;
-use crate::wire::turned;
+use crate::wire::rotated;
 use crate::wire::word_before;
 use crate::wire::word_from;
 use crate::word_form::choice;
@@ -16,14 +16,14 @@ use crate::word_form::pair;
 use crate::word_form::permuted;
 use crate::word_form::sum;
 use crate::word_form::xor_of_two;
-use sm3::constants::turned_constant;
+use sm3::constants::rotated_constant;
 
 // u = A<<<12 + E + T<<<(j mod 32). Only the equation, behind the 34 bit rows, needs the table.
 pub fn u_form(first: u64, j: u64, l: u64) -> Form
     requires { ⌜ StepRow U first j l ⌝ }
     ensures { λ f. ⌜ (f ≡ uForm first (standsBefore first j) j l) × Fit f ⌝ }
 {
-    let x = turned(12, word_before(first, 0, j));
+    let x = rotated(12, word_before(first, 0, j));
     let y = word_before(first, 4, j);
     let addends = Addends {
         x,
@@ -36,7 +36,7 @@ pub fn u_form(first: u64, j: u64, l: u64) -> Form
     if l < 34 {
         return sum(addends, 0, r, l);
     }
-    let t = turned_constant(j as usize);
+    let t = rotated_constant(j as usize);
     sum(addends, t as u64, r, l)
 }
 
@@ -46,8 +46,8 @@ pub fn ss2_form(first: u64, j: u64, l: u64) -> Form
     ensures { λ f. ⌜ (f ≡ ss2Form first (standsBefore first j) j l) × Fit f ⌝ }
 {
     let u = first + 7552 + 230 * j;
-    let x = turned(7, word_from(u));
-    let y = turned(12, word_before(first, 0, j));
+    let x = rotated(7, word_from(u));
+    let y = rotated(12, word_before(first, 0, j));
     let r = word_from(u + 34);
     xor_of_two(x, y, r, l)
 }
@@ -105,7 +105,7 @@ pub fn tt2_form(first: u64, j: u64, l: u64) -> Form
         x: word_from(u + 98),
         y: word_before(first, 7, j),
         four: true,
-        z: turned(7, word_from(u)),
+        z: rotated(7, word_from(u)),
         t: expanded_word(first, j),
     };
     sum(addends, 0, u + 164, l)

@@ -7,7 +7,7 @@ use native.Mathlib.Numerals.{add-one, add-two, add-three, add-four}
 use native.Mathlib.Omega.{arith}
 use lib.ListN.{getD, take}
 use lib.Seq.{getD-take}
-use Rattle.sm3.specs.Sm3.{expansion, pairWord, roundOf, rounds, turnedConstant}
+use Rattle.sm3.specs.Sm3.{expansion, pairWord, roundOf, rounds, rotatedConstant}
 use Rattle.sm3.specs.Words.{tab}
 use Rattle.sm3.specs.declared.state.State.{State}
 use Rattle.sm3.proofs.expansion.Laws.{take-expansion}
@@ -47,5 +47,5 @@ unfolding rounds
 rounds-four w v j e₁ e₂ e₃ e₄ e = rw add-four (cc (add-one j, add-two j, add-three j))
 
 -- T of round j in the table
-pub table-at : (t : List ℕ) (j : ℕ) → j < 64 → t ≡ tab 64 turnedConstant → getD t j 0 ≡ turnedConstant j
-table-at t j h e = ap (λ (l : List ℕ). getD l j 0) e ∙ getD-tab 64 turnedConstant j 0 h
+pub table-at : (t : List ℕ) (j : ℕ) → j < 64 → t ≡ tab 64 rotatedConstant → getD t j 0 ≡ rotatedConstant j
+table-at t j h e = ap (λ (l : List ℕ). getD l j 0) e ∙ getD-tab 64 rotatedConstant j 0 h

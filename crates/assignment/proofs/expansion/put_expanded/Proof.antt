@@ -9,16 +9,16 @@ use lib.ListN.{getD}
 use Rattle.assignment.proofs.Writes.{wrote-as, wrote-then}
 use Rattle.circuit.specs.Layout.{wordWires}
 use Rattle.sm3.specs.Sm3.{P1, _⊕_, expanded, mixed}
-use Rattle.sm3.specs.Words.{turn}
+use Rattle.sm3.specs.Words.{rotateLeft}
 use Rattle.assignment.proofs.expansion.put_expanded.Statement.{statement}
 use Rattle.assignment.proofs.expansion.put_expanded.Tie as tie
 
--- q and Wj of what `turn_left` and `p1` give
-mixed-is : (x : List ℕ) (j : ℕ) {t : ℕ} → t ≡ turn 15 (getD x (j - 3) 0) → getD x (j - 16) 0 ⊕ getD x (j - 9) 0 ⊕ t ≡ mixed x j
+-- q and Wj of what `rotate_left` and `p1` give
+mixed-is : (x : List ℕ) (j : ℕ) {t : ℕ} → t ≡ rotateLeft 15 (getD x (j - 3) 0) → getD x (j - 16) 0 ⊕ getD x (j - 9) 0 ⊕ t ≡ mixed x j
 unfolding mixed
 mixed-is x j e = ap (λ t. getD x (j - 16) 0 ⊕ getD x (j - 9) 0 ⊕ t) e
 
-expanded-is : (x : List ℕ) (j : ℕ) {p t : ℕ} → p ≡ P1 (mixed x j) → t ≡ turn 7 (getD x (j - 13) 0)
+expanded-is : (x : List ℕ) (j : ℕ) {p t : ℕ} → p ≡ P1 (mixed x j) → t ≡ rotateLeft 7 (getD x (j - 13) 0)
     → p ⊕ t ⊕ getD x (j - 6) 0 ≡ expanded x j
 unfolding expanded
 expanded-is x j e d = ap₂ (λ p t. p ⊕ t ⊕ getD x (j - 6) 0) e d
@@ -41,32 +41,32 @@ mul-q-2 c = search needs
 element-copy-out-q-2 : tie.Need-element-copy-out-q-2
 element-copy-out-q-2 c = search needs
 
-sub-turn-left : tie.Need-sub-turn-left
-sub-turn-left c = search needs
+sub-rotate-left : tie.Need-sub-rotate-left
+sub-rotate-left c = search needs
 
-mul-turn-left : tie.Need-mul-turn-left
-mul-turn-left c = search needs
+mul-rotate-left : tie.Need-mul-rotate-left
+mul-rotate-left c = search needs
 
-element-copy-out-turn-left : tie.Need-element-copy-out-turn-left
-element-copy-out-turn-left c = search needs
+element-copy-out-rotate-left : tie.Need-element-copy-out-rotate-left
+element-copy-out-rotate-left c = search needs
 
-turn-left-requires : tie.Need-turn-left-requires
-turn-left-requires c κs = search needs
+rotate-left-requires : tie.Need-rotate-left-requires
+rotate-left-requires c κs = search needs
 
 p1-requires : tie.Need-p1-requires
 p1-requires c κs = search needs
 
-sub-turn-left-2 : tie.Need-sub-turn-left-2
-sub-turn-left-2 c = search needs
+sub-rotate-left-2 : tie.Need-sub-rotate-left-2
+sub-rotate-left-2 c = search needs
 
-mul-turn-left-2 : tie.Need-mul-turn-left-2
-mul-turn-left-2 c = search needs
+mul-rotate-left-2 : tie.Need-mul-rotate-left-2
+mul-rotate-left-2 c = search needs
 
-element-copy-out-turn-left-2 : tie.Need-element-copy-out-turn-left-2
-element-copy-out-turn-left-2 c = search needs
+element-copy-out-rotate-left-2 : tie.Need-element-copy-out-rotate-left-2
+element-copy-out-rotate-left-2 c = search needs
 
-turn-left-requires-2 : tie.Need-turn-left-requires-2
-turn-left-requires-2 c κs = search needs
+rotate-left-requires-2 : tie.Need-rotate-left-requires-2
+rotate-left-requires-2 c κs = search needs
 
 sub-r : tie.Need-sub-r
 sub-r c = search needs
@@ -100,14 +100,14 @@ returns c =
     let p3 = c .before .before in
     let p2 = p3 .before .before .before .before in
     let p1 = p2 .before .before .before .before in
-    let turned = p1 .before .before .before in
-    let mixing = turned .before .before in
+    let rotated = p1 .before .before .before in
+    let mixing = rotated .before .before in
     let a = mixing .before .before .before .before .before .before .args in
     let x = now (a .x) in
-    let q : mixing .before .turn-left .result ≡ turn 15 (getD x (a .j - 3) 0) = mixing .before .turn-left .ensures in
+    let q : mixing .before .rotate-left .result ≡ rotateLeft 15 (getD x (a .j - 3) 0) = mixing .before .rotate-left .ensures in
     let mix = mixed-is x (a .j) q in
     let p = mixing .p1 .ensures ∙ ap P1 mix in (
-      expanded-is x (a .j) p (turned .turn-left2 .ensures),
+      expanded-is x (a .j) p (rotated .rotate-left2 .ensures),
       wrote-then (a .w + 32) refl (wrote-as (ap wordWires mix) (p1 .put-word .ensures))
           (wrote-then (a .w + 64) (omega arith) (wrote-as (ap wordWires p) (p2 .put-word2 .ensures)) (p3 .put-word3 .ensures)),
     )
@@ -122,15 +122,15 @@ put-expanded-spec =
     sub-q-2
     mul-q-2
     element-copy-out-q-2
-    sub-turn-left
-    mul-turn-left
-    element-copy-out-turn-left
-    turn-left-requires
+    sub-rotate-left
+    mul-rotate-left
+    element-copy-out-rotate-left
+    rotate-left-requires
     p1-requires
-    sub-turn-left-2
-    mul-turn-left-2
-    element-copy-out-turn-left-2
-    turn-left-requires-2
+    sub-rotate-left-2
+    mul-rotate-left-2
+    element-copy-out-rotate-left-2
+    rotate-left-requires-2
     sub-r
     mul-r
     element-copy-out-r

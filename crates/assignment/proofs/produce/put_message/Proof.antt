@@ -13,7 +13,7 @@ use Rattle.circuit.specs.Layout.{blockWires, messageWires, wireCount}
 use Rattle.circuit.specs.Sequence.{grid}
 use Rattle.sm3.proofs.Bounds.{message-lt}
 use Rattle.sm3.proofs.Bytes.{bit-of-bytes-lt}
-use Rattle.sm3.specs.Message.{bitOfBytes, blockBits, blocks, chain, message}
+use Rattle.sm3.specs.Message.{bitOfBytes, blockBits, blocks, chainingValue, message}
 use Rattle.sm3.specs.Sm3.{block}
 use Rattle.assignment.proofs.produce.put_message.Statement.{statement}
 use Rattle.assignment.proofs.produce.put_message.Tie as tie
@@ -23,11 +23,11 @@ abbrev messageOf : List ℕ → ℕ → ℕ
 messageOf bytes = message (8 * length bytes) (bitOfBytes bytes)
 
 abbrev wires : (ℕ → ℕ) → ℕ → ℕ
-wires m = grid 22528 (λ i. blockWires (blockBits m i) (chain m i))
+wires m = grid 22528 (λ i. blockWires (blockBits m i) (chainingValue m i))
 
 abbrev Inv-loop : tie.InvT-loop
 Inv-loop out₀ bytes n t v₀ i₀ out v i =
-    (i ≤ n) × (v ≡ chain (messageOf bytes) i) × Wrote 513 (22528 * i) (wires (messageOf bytes)) out₀ out
+    (i ≤ n) × (v ≡ chainingValue (messageOf bytes) i) × Wrote 513 (22528 * i) (wires (messageOf bytes)) out₀ out
 
 abbrev μ-loop : tie.MeasureT-loop
 μ-loop out₀ bytes n t v₀ i₀ out v i = n - i
@@ -38,14 +38,14 @@ add-n c = search needs
 add-n-2 : tie.Need-add-n-2 Inv-loop μ-loop
 add-n-2 c = search needs
 
-turned-constants-requires : tie.Need-turned-constants-requires Inv-loop μ-loop
-turned-constants-requires c κs = search needs
+rotated-constants-requires : tie.Need-rotated-constants-requires Inv-loop μ-loop
+rotated-constants-requires c κs = search needs
 
 start-state-requires : tie.Need-start-state-requires Inv-loop μ-loop
 start-state-requires c κs = search needs
 
 loop-holds : tie.Need-loop-holds Inv-loop μ-loop
-unfolding chain
+unfolding chainingValue
 loop-holds c = (omega arith, c .start-state .ensures, wrote-none _ _ _)
 
 mul-put-block : tie.Need-mul-put-block Inv-loop μ-loop
@@ -64,7 +64,7 @@ put-block-requires c κs =
     let l = c .before .before .before .before in
     let constants = l .before .before in
     let start = constants .before .before .before in
-    (constants .turned-constants .ensures, omega (arith, start, length-wrote (l .loop .inv .2)))
+    (constants .rotated-constants .ensures, omega (arith, start, length-wrote (l .loop .inv .2)))
 
 add-i : tie.Need-add-i Inv-loop μ-loop
 add-i c = search needs
@@ -73,7 +73,7 @@ loop-less : tie.Need-loop-less Inv-loop μ-loop
 loop-less c = search needs
 
 loop-again : tie.Need-loop-again Inv-loop μ-loop
-unfolding blockBits chain
+unfolding blockBits chainingValue
 loop-again c =
     let l = c .before .before .before .before .before .before .before in
     let bytes = l .before .before .before .before .before .args .bytes .now in
@@ -83,8 +83,8 @@ loop-again c =
     (λ k below. message-lt (8 * length bytes) (bitOfBytes bytes) (λ k below. bit-of-bytes-lt bytes k) (512 * i + k))
     (c .before .before .before .before .message-words .ensures .1) in (
       omega arith,
-      put .0 ∙ ap (block (blockBits m i)) (l .loop .inv .1) ∙ ap (chain m) (sym (add-one i)),
-      wrote-row (λ i. blockWires (blockBits m i) (chain m i)) i _ refl (l .loop .inv .2)
+      put .0 ∙ ap (block (blockBits m i)) (l .loop .inv .1) ∙ ap (chainingValue m) (sym (add-one i)),
+      wrote-row (λ i. blockWires (blockBits m i) (chainingValue m i)) i _ refl (l .loop .inv .2)
           (wrote-as (ap (blockWires (blockBits m i)) (l .loop .inv .1)) (put .1)),
     )
 
@@ -107,7 +107,7 @@ put-message-spec =
     μ-loop
     add-n
     add-n-2
-    turned-constants-requires
+    rotated-constants-requires
     start-state-requires
     loop-holds
     mul-put-block

@@ -11,7 +11,7 @@ use Rattle.circuit.specs.Layout.{roundWires, sumWires, wordWires}
 use Rattle.circuit.specs.Sequence.{beside}
 use Rattle.sm3.proofs.rounds.Laws.{table-at}
 use Rattle.sm3.specs.Sm3.{FF, GG, P0, SS2, dropped, pairWord, roundOf, sumTT1, sumTT2, sumU}
-use Rattle.sm3.specs.Words.{turn}
+use Rattle.sm3.specs.Words.{rotateLeft}
 use Rattle.sm3.specs.declared.state.State.{State}
 use Rattle.assignment.proofs.rounds.put_round.Statement.{statement}
 use Rattle.assignment.proofs.rounds.put_round.Tie as tie
@@ -26,8 +26,8 @@ unfolding roundWires
 round-wires x j s u ss2 ff gg tt1 tt2 p0 = cc
 
 -- A to H after the round
-next-is : (j word pair : ℕ) (s : State) {a c e g : ℕ} → a ≡ dropped (sumTT1 j pair s) → c ≡ turn 9 (s .b)
-    → e ≡ P0 (dropped (sumTT2 j word s)) → g ≡ turn 19 (s .f)
+next-is : (j word pair : ℕ) (s : State) {a c e g : ℕ} → a ≡ dropped (sumTT1 j pair s) → c ≡ rotateLeft 9 (s .b)
+    → e ≡ P0 (dropped (sumTT2 j word s)) → g ≡ rotateLeft 19 (s .f)
     → _≡_ {A = State} (record { a = a; b = s .a; c = c; d = s .c; e = e; f = s .e; g = g; h = s .g }) (roundOf j word pair s)
 unfolding roundOf
 next-is j word pair s a c e g = cc
@@ -68,11 +68,11 @@ put-values-requires c κs = search needs
 low-requires : tie.Need-low-requires
 low-requires c κs = search needs
 
-turn-left-requires : tie.Need-turn-left-requires
-turn-left-requires c κs = search needs
+rotate-left-requires : tie.Need-rotate-left-requires
+rotate-left-requires c κs = search needs
 
-turn-left-requires-2 : tie.Need-turn-left-requires-2
-turn-left-requires-2 c κs = search needs
+rotate-left-requires-2 : tie.Need-rotate-left-requires-2
+rotate-left-requires-2 c κs = search needs
 
 same-length : tie.Need-same-length
 same-length c = search needs
@@ -84,8 +84,8 @@ returns c =
     let computed = put .before .before in
     let a = computed .before .before .before .before .before .before .args in
     let e = computed .round-values .ensures in (
-      next-is (a .j) _ _ (a .s) (c .before .before .low .ensures ∙ ap dropped (e .4)) (c .before .turn-left .ensures) (e .6)
-          (c .turn-left2 .ensures),
+      next-is (a .j) _ _ (a .s) (c .before .before .low .ensures ∙ ap dropped (e .4)) (c .before .rotate-left .ensures) (e .6)
+          (c .rotate-left2 .ensures),
       wrote-as (round-wires (now (a .x)) (a .j) (a .s) (e .0) (e .1) (e .2) (e .3) (e .4) (e .5) (e .6)) (put .put-values .ensures),
     )
 
@@ -105,7 +105,7 @@ put-round-spec =
     round-values-requires
     put-values-requires
     low-requires
-    turn-left-requires
-    turn-left-requires-2
+    rotate-left-requires
+    rotate-left-requires-2
     same-length
     returns)

@@ -3,7 +3,7 @@ use mathlib.Core.Path.{_≡_, _∙_, ap}
 use Prim.Native.Nat.{_+_, _-_, _*_, _/_, _%_}
 use native.Mathlib.Omega.{arith}
 use borrow.Author.Needs.{needs}
-use Rattle.circuit.specs.Wires.{turnedBy}
+use Rattle.circuit.specs.Wires.{rotatedBy}
 use Rattle.circuit.proofs.wire.Laws.{word-known, word-placed}
 use Rattle.circuit.proofs.wire.word_before.Statement.{statement}
 use Rattle.circuit.proofs.wire.word_before.Tie as tie
@@ -31,14 +31,14 @@ returns-2 c =
     let turn = word-placed (a .first) (a .first - 256) (a .j) (a .k) (search needs) .early (c .if2 .taken) in
     (c .before .before .word-from .ensures .0 ∙ word-known _ _ 0 (b .origin .ensures .0) turn, c .before .before .word-from .ensures .1)
 
-mul-turned : tie.Need-mul-turned
-mul-turned c = search needs
+mul-rotated : tie.Need-mul-rotated
+mul-rotated c = search needs
 
-add-turned : tie.Need-add-turned
-add-turned c = search needs
+add-rotated : tie.Need-add-rotated
+add-rotated c = search needs
 
-turned-requires : tie.Need-turned-requires
-turned-requires c κs = search needs
+rotated-requires : tie.Need-rotated-requires
+rotated-requires c κs = search needs
 
 returns-3 : tie.Need-returns-3
 returns-3 c =
@@ -46,13 +46,13 @@ returns-3 c =
     let a = b .before .args in
     let t = 9 + 10 * (a .k / 4) in
     let turn =
-    word-placed (a .first) (a .first - 256) (a .j) (a .k) (search needs) .turned (c .before .before .if1 .left)
+    word-placed (a .first) (a .first - 256) (a .j) (a .k) (search needs) .rotated (c .before .before .if1 .left)
     (c .before .if2 .left) in
     let once : t ≡ (0 + t) % 32 = omega arith in (
-      c .turned .ensures .0
-          ∙ ap (turnedBy t) (c .before .before .before .word-from .ensures .0)
+      c .rotated .ensures .0
+          ∙ ap (rotatedBy t) (c .before .before .before .word-from .ensures .0)
           ∙ word-known _ _ _ (b .origin .ensures .0) (turn ∙ once),
-      c .turned .ensures .1,
+      c .rotated .ensures .1,
     )
 
 pub word-before-spec : {M : Type 1} → statement M
@@ -64,7 +64,7 @@ word-before-spec =
     returns
     add-if2
     returns-2
-    mul-turned
-    add-turned
-    turned-requires
+    mul-rotated
+    add-rotated
+    rotated-requires
     returns-3)

@@ -1,7 +1,7 @@
 -- The code is the definition, with what the calls ensure put in.
 use mathlib.Core.Path.{_∙_, ap}
 use borrow.Author.Needs.{needs}
-use Rattle.circuit.specs.Wires.{turnedBy}
+use Rattle.circuit.specs.Wires.{rotatedBy}
 use Rattle.circuit.proofs.word_form.Laws.{same-pair}
 use Rattle.circuit.proofs.word_form.permuted.Statement.{statement}
 use Rattle.circuit.proofs.word_form.permuted.Tie as tie
@@ -9,11 +9,11 @@ use Rattle.circuit.proofs.word_form.permuted.Tie as tie
 word-from-requires : tie.Need-word-from-requires
 word-from-requires c κs = search needs
 
-turned-requires : tie.Need-turned-requires
-turned-requires c κs = search needs
+rotated-requires : tie.Need-rotated-requires
+rotated-requires c κs = search needs
 
-turned-requires-2 : tie.Need-turned-requires-2
-turned-requires-2 c κs = search needs
+rotated-requires-2 : tie.Need-rotated-requires-2
+rotated-requires-2 c κs = search needs
 
 word-from-requires-2 : tie.Need-word-from-requires-2
 word-from-requires-2 c κs = search needs
@@ -26,8 +26,8 @@ returns c =
     let b = c .before in
     let a = b .before .before .before .before .args in
     let x = b .before .before .before .word-from .ensures .0 in
-    let y = b .before .before .turned .ensures .0 ∙ ap (turnedBy (a .near)) x in
-    let z = b .before .turned2 .ensures .0 ∙ ap (turnedBy (a .far)) x in
+    let y = b .before .before .rotated .ensures .0 ∙ ap (rotatedBy (a .near)) x in
+    let z = b .before .rotated2 .ensures .0 ∙ ap (rotatedBy (a .far)) x in
     let r = b .word-from2 .ensures .0 in
     same-pair _ _ (c .pair .ensures) x y z r
 
@@ -36,8 +36,8 @@ permuted-spec =
     tie.close
     (tie.spec
     word-from-requires
-    turned-requires
-    turned-requires-2
+    rotated-requires
+    rotated-requires-2
     word-from-requires-2
     pair-requires
     returns)

@@ -22,32 +22,32 @@ mul-q-2 c = search needs
 element-copy-out-q-2 : tie.Need-element-copy-out-q-2
 element-copy-out-q-2 c = search needs
 
-sub-turn-left : tie.Need-sub-turn-left
-sub-turn-left c = search needs
+sub-rotate-left : tie.Need-sub-rotate-left
+sub-rotate-left c = search needs
 
-mul-turn-left : tie.Need-mul-turn-left
-mul-turn-left c = search needs
+mul-rotate-left : tie.Need-mul-rotate-left
+mul-rotate-left c = search needs
 
-element-copy-out-turn-left : tie.Need-element-copy-out-turn-left
-element-copy-out-turn-left c = search needs
+element-copy-out-rotate-left : tie.Need-element-copy-out-rotate-left
+element-copy-out-rotate-left c = search needs
 
-turn-left-requires : tie.Need-turn-left-requires
-turn-left-requires c κs = search needs
+rotate-left-requires : tie.Need-rotate-left-requires
+rotate-left-requires c κs = search needs
 
 p1-requires : tie.Need-p1-requires
 p1-requires c κs = search needs
 
-sub-turn-left-2 : tie.Need-sub-turn-left-2
-sub-turn-left-2 c = search needs
+sub-rotate-left-2 : tie.Need-sub-rotate-left-2
+sub-rotate-left-2 c = search needs
 
-mul-turn-left-2 : tie.Need-mul-turn-left-2
-mul-turn-left-2 c = search needs
+mul-rotate-left-2 : tie.Need-mul-rotate-left-2
+mul-rotate-left-2 c = search needs
 
-element-copy-out-turn-left-2 : tie.Need-element-copy-out-turn-left-2
-element-copy-out-turn-left-2 c = search needs
+element-copy-out-rotate-left-2 : tie.Need-element-copy-out-rotate-left-2
+element-copy-out-rotate-left-2 c = search needs
 
-turn-left-requires-2 : tie.Need-turn-left-requires-2
-turn-left-requires-2 c κs = search needs
+rotate-left-requires-2 : tie.Need-rotate-left-requires-2
+rotate-left-requires-2 c κs = search needs
 
 sub-result : tie.Need-sub-result
 sub-result c = search needs
@@ -72,15 +72,15 @@ expanded-word-spec =
     sub-q-2
     mul-q-2
     element-copy-out-q-2
-    sub-turn-left
-    mul-turn-left
-    element-copy-out-turn-left
-    turn-left-requires
+    sub-rotate-left
+    mul-rotate-left
+    element-copy-out-rotate-left
+    rotate-left-requires
     p1-requires
-    sub-turn-left-2
-    mul-turn-left-2
-    element-copy-out-turn-left-2
-    turn-left-requires-2
+    sub-rotate-left-2
+    mul-rotate-left-2
+    element-copy-out-rotate-left-2
+    rotate-left-requires-2
     sub-result
     mul-result
     element-copy-out-result

@@ -6,14 +6,14 @@ use native.Mathlib.Numerals.{add-one}
 use native.Mathlib.Omega.{arith}
 use borrow.Author.Needs.{needs}
 use lib.ListN.{length}
-use Rattle.sm3.specs.Message.{bitOfBytes, blockBits, blocks, chain, digestOf, message}
+use Rattle.sm3.specs.Message.{bitOfBytes, blockBits, blocks, chainingValue, digestOf, message}
 use Rattle.sm3.specs.Sm3.{block}
 use Rattle.sm3.proofs.message.hash.Statement.{statement}
 use Rattle.sm3.proofs.message.hash.Tie as tie
 
 abbrev Inv-loop : tie.InvT-loop
 Inv-loop bytes n t v₀ i₀ v i =
-    (i ≤ n) × (v ≡ chain (message (8 * length bytes) (bitOfBytes bytes)) i)
+    (i ≤ n) × (v ≡ chainingValue (message (8 * length bytes) (bitOfBytes bytes)) i)
 
 abbrev μ-loop : tie.MeasureT-loop
 μ-loop bytes n t v₀ i₀ v i = n - i
@@ -24,14 +24,14 @@ add-n c = search needs
 add-n-2 : tie.Need-add-n-2 Inv-loop μ-loop
 add-n-2 c = search needs
 
-turned-constants-requires : tie.Need-turned-constants-requires Inv-loop μ-loop
-turned-constants-requires c κs = search needs
+rotated-constants-requires : tie.Need-rotated-constants-requires Inv-loop μ-loop
+rotated-constants-requires c κs = search needs
 
 start-state-requires : tie.Need-start-state-requires Inv-loop μ-loop
 start-state-requires c κs = search needs
 
 loop-holds : tie.Need-loop-holds Inv-loop μ-loop
-unfolding chain
+unfolding chainingValue
 loop-holds c = (omega arith, c .start-state .ensures)
 
 next-state-requires : tie.Need-next-state-requires Inv-loop μ-loop
@@ -45,7 +45,7 @@ loop-less : tie.Need-loop-less Inv-loop μ-loop
 loop-less c = search needs
 
 loop-again : tie.Need-loop-again Inv-loop μ-loop
-unfolding chain
+unfolding chainingValue
 loop-again c =
     let l = c .before .before .before .loop in
     let bytes = c .before .before .before .before .before .before .before .args .bytes .now in
@@ -53,7 +53,7 @@ loop-again c =
       omega arith,
       c .next-state .ensures
           ∙ ap (block (blockBits m (l .i))) (l .inv .1)
-          ∙ ap (chain m) (sym (add-one (l .i))),
+          ∙ ap (chainingValue m) (sym (add-one (l .i))),
     )
 
 returns : tie.Need-returns Inv-loop μ-loop
@@ -62,7 +62,7 @@ returns c =
     let l = c .before .loop in
     let bytes = c .before .before .before .before .before .args .bytes .now in
     let all : l .i ≡ blocks (8 * length bytes) = omega arith in
-    l .inv .1 ∙ ap (chain (message (8 * length bytes) (bitOfBytes bytes))) all
+    l .inv .1 ∙ ap (chainingValue (message (8 * length bytes) (bitOfBytes bytes))) all
 
 pub hash-spec : {M : Type 1} → statement M
 hash-spec =
@@ -72,7 +72,7 @@ hash-spec =
     μ-loop
     add-n
     add-n-2
-    turned-constants-requires
+    rotated-constants-requires
     start-state-requires
     loop-holds
     next-state-requires

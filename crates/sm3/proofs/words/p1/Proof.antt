@@ -1,18 +1,18 @@
--- The calls give the turned words that P1 is made of.
+-- The calls give the rotated words that P1 is made of.
 use borrow.Author.Needs.{needs}
 use Rattle.sm3.specs.Sm3.{P1}
 use Rattle.sm3.proofs.words.p1.Statement.{statement}
 use Rattle.sm3.proofs.words.p1.Tie as tie
 
-turn-left-requires : tie.Need-turn-left-requires
-turn-left-requires c κs = search needs
+rotate-left-requires : tie.Need-rotate-left-requires
+rotate-left-requires c κs = search needs
 
-turn-left-requires-2 : tie.Need-turn-left-requires-2
-turn-left-requires-2 c κs = search needs
+rotate-left-requires-2 : tie.Need-rotate-left-requires-2
+rotate-left-requires-2 c κs = search needs
 
 returns : tie.Need-returns
 unfolding P1
 returns c = cc
 
 pub p1-spec : {M : Type 1} → statement M
-p1-spec = tie.close (tie.spec turn-left-requires turn-left-requires-2 returns)
+p1-spec = tie.close (tie.spec rotate-left-requires rotate-left-requires-2 returns)

@@ -2,7 +2,7 @@
 use mathlib.Core.Path.{_∙_, ap}
 use borrow.Author.Needs.{needs}
 use Rattle.circuit.specs.Circuit.{qForm}
-use Rattle.circuit.specs.Wires.{turnedBy}
+use Rattle.circuit.specs.Wires.{rotatedBy}
 use Rattle.circuit.proofs.step_form.expansion.q_form.Statement.{statement}
 use Rattle.circuit.proofs.word_form.Laws.{same-pair}
 use Rattle.circuit.proofs.step_form.expansion.q_form.Tie as tie
@@ -25,8 +25,8 @@ sub-expanded-word-3 c = search needs
 expanded-word-requires-3 : tie.Need-expanded-word-requires-3
 expanded-word-requires-3 c κs = search needs
 
-turned-requires : tie.Need-turned-requires
-turned-requires c κs = search needs
+rotated-requires : tie.Need-rotated-requires
+rotated-requires c κs = search needs
 
 add-word-from : tie.Need-add-word-from
 add-word-from c = search needs
@@ -52,7 +52,7 @@ returns c =
     let b = c .before in
     let x = b .before .before .before .before .expanded-word .ensures .0 in
     let y = b .before .before .before .expanded-word2 .ensures .0 in
-    let z = b .before .turned .ensures .0 ∙ ap (turnedBy 15) (b .before .before .expanded-word3 .ensures .0) in
+    let z = b .before .rotated .ensures .0 ∙ ap (rotatedBy 15) (b .before .before .expanded-word3 .ensures .0) in
     let r = b .word-from .ensures .0 in
     same-pair _ _ (c .pair .ensures) x y z r
 
@@ -66,7 +66,7 @@ q-form-spec =
     expanded-word-requires-2
     sub-expanded-word-3
     expanded-word-requires-3
-    turned-requires
+    rotated-requires
     add-word-from
     sub-word-from
     mul-word-from

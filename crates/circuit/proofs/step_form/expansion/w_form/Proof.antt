@@ -2,7 +2,7 @@
 use mathlib.Core.Path.{_∙_, ap}
 use borrow.Author.Needs.{needs}
 use Rattle.circuit.specs.Circuit.{wForm}
-use Rattle.circuit.specs.Wires.{turnedBy}
+use Rattle.circuit.specs.Wires.{rotatedBy}
 use Rattle.circuit.proofs.step_form.expansion.w_form.Statement.{statement}
 use Rattle.circuit.proofs.word_form.Laws.{same-pair}
 use Rattle.circuit.proofs.step_form.expansion.w_form.Tie as tie
@@ -31,8 +31,8 @@ sub-expanded-word c = search needs
 expanded-word-requires : tie.Need-expanded-word-requires
 expanded-word-requires c κs = search needs
 
-turned-requires : tie.Need-turned-requires
-turned-requires c κs = search needs
+rotated-requires : tie.Need-rotated-requires
+rotated-requires c κs = search needs
 
 sub-expanded-word-2 : tie.Need-sub-expanded-word-2
 sub-expanded-word-2 c = search needs
@@ -51,7 +51,7 @@ unfolding wForm
 returns c =
     let b = c .before in
     let x = b .before .before .before .before .word-from .ensures .0 in
-    let y = b .before .before .turned .ensures .0 ∙ ap (turnedBy 7) (b .before .before .before .expanded-word .ensures .0) in
+    let y = b .before .before .rotated .ensures .0 ∙ ap (rotatedBy 7) (b .before .before .before .expanded-word .ensures .0) in
     let z = b .before .expanded-word2 .ensures .0 in
     let r = b .expanded-word3 .ensures .0 in
     same-pair _ _ (c .pair .ensures) x y z r
@@ -68,7 +68,7 @@ w-form-spec =
     word-from-requires
     sub-expanded-word
     expanded-word-requires
-    turned-requires
+    rotated-requires
     sub-expanded-word-2
     expanded-word-requires-2
     expanded-word-requires-3

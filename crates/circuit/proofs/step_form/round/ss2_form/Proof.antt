@@ -2,7 +2,7 @@
 use mathlib.Core.Path.{_∙_, ap}
 use borrow.Author.Needs.{needs}
 use Rattle.circuit.specs.Circuit.{ss2Form}
-use Rattle.circuit.specs.Wires.{turnedBy}
+use Rattle.circuit.specs.Wires.{rotatedBy}
 use Rattle.circuit.proofs.step_form.round.ss2_form.Statement.{statement}
 use Rattle.circuit.proofs.word_form.Laws.{same-xor}
 use Rattle.circuit.proofs.step_form.round.ss2_form.Tie as tie
@@ -19,14 +19,14 @@ add-u-2 c = search needs
 word-from-requires : tie.Need-word-from-requires
 word-from-requires c κs = search needs
 
-turned-requires : tie.Need-turned-requires
-turned-requires c κs = search needs
+rotated-requires : tie.Need-rotated-requires
+rotated-requires c κs = search needs
 
 word-before-requires : tie.Need-word-before-requires
 word-before-requires c κs = search needs
 
-turned-requires-2 : tie.Need-turned-requires-2
-turned-requires-2 c κs = search needs
+rotated-requires-2 : tie.Need-rotated-requires-2
+rotated-requires-2 c κs = search needs
 
 add-word-from : tie.Need-add-word-from
 add-word-from c = search needs
@@ -41,8 +41,8 @@ returns : tie.Need-returns
 unfolding ss2Form
 returns c =
     let b = c .before in
-    let x = b .before .before .before .turned .ensures .0 ∙ ap (turnedBy 7) (b .before .before .before .before .word-from .ensures .0) in
-    let y = b .before .turned2 .ensures .0 ∙ ap (turnedBy 12) (b .before .before .word-before .ensures .0) in
+    let x = b .before .before .before .rotated .ensures .0 ∙ ap (rotatedBy 7) (b .before .before .before .before .word-from .ensures .0) in
+    let y = b .before .rotated2 .ensures .0 ∙ ap (rotatedBy 12) (b .before .before .word-before .ensures .0) in
     let r = b .word-from2 .ensures .0 in
     same-xor _ (c .xor-of-two .ensures) x y r
 
@@ -54,9 +54,9 @@ ss2-form-spec =
     mul-u
     add-u-2
     word-from-requires
-    turned-requires
+    rotated-requires
     word-before-requires
-    turned-requires-2
+    rotated-requires-2
     add-word-from
     word-from-requires-2
     xor-of-two-requires

@@ -2,7 +2,7 @@
 use mathlib.Core.Path.{_∙_, ap}
 use borrow.Author.Needs.{needs}
 use Rattle.circuit.specs.Circuit.{tt2Form}
-use Rattle.circuit.specs.Wires.{turnedBy}
+use Rattle.circuit.specs.Wires.{rotatedBy}
 use Rattle.circuit.proofs.step_form.round.tt2_form.Statement.{statement}
 use Rattle.circuit.proofs.word_form.Laws.{same-sum-of-four}
 use Rattle.circuit.proofs.step_form.round.tt2_form.Tie as tie
@@ -28,8 +28,8 @@ word-before-requires c κs = search needs
 word-from-requires-2 : tie.Need-word-from-requires-2
 word-from-requires-2 c κs = search needs
 
-turned-requires : tie.Need-turned-requires
-turned-requires c κs = search needs
+rotated-requires : tie.Need-rotated-requires
+rotated-requires c κs = search needs
 
 expanded-word-requires : tie.Need-expanded-word-requires
 expanded-word-requires c κs = search needs
@@ -46,7 +46,7 @@ returns c =
     let b = c .before in
     let x = b .before .before .before .before .word-from .ensures .0 in
     let y = b .before .before .before .word-before .ensures .0 in
-    let z = b .before .turned .ensures .0 ∙ ap (turnedBy 7) (b .before .before .word-from2 .ensures .0) in
+    let z = b .before .rotated .ensures .0 ∙ ap (rotatedBy 7) (b .before .before .word-from2 .ensures .0) in
     let t = b .expanded-word .ensures .0 in
     same-sum-of-four _ _ _ (c .sum .ensures) x y z t
 
@@ -61,7 +61,7 @@ tt2-form-spec =
     word-from-requires
     word-before-requires
     word-from-requires-2
-    turned-requires
+    rotated-requires
     expanded-word-requires
     add-sum
     sum-requires

@@ -1,5 +1,5 @@
--- A turned word. Its lowest 32 - k bits, moved up by k places, and its highest k bits below them are the word turned by k. So
--- it is a word, and bit i of it is bit i + k of the word that was turned, counted round.
+-- A rotated word. Its lowest 32 - k bits, moved up by k places, and its highest k bits below them are the word rotated by k. So
+-- it is a word, and bit i of it is bit i + k of the word that was rotated, counted round.
 use mathlib.Core.Logic.{by-cases}
 use mathlib.Core.Path.{_≡_, sym, ap, ap₂, _∙_, subst, subst₂}
 use Prim.Native.Nat.{ℕ, suc, _+_, _-_, _*_, _/_, _%_, _^_, _≤_, _<_}
@@ -9,7 +9,7 @@ use native.Mathlib.Omega.{arith}
 use lib.Arith.{digits-lt}
 use lib.Bits.{block-odd}
 use lib.Pow.{high, mod-pow-add, pow-add, pow-pos, shl-shr, shr-lt, shr-shr, split}
-use Rattle.sm3.specs.Words.{bit, turn}
+use Rattle.sm3.specs.Words.{bit, rotateLeft}
 
 -- what is left of a number moved up by k places, in j + k bits
 shl-mod : (x j k : ℕ) → x * 2 ^ k % 2 ^ (j + k) ≡ x % 2 ^ j * 2 ^ k
@@ -29,14 +29,14 @@ shr-word k x h l =
     let whole : 32 ≡ k + (32 - k) = omega arith in
     shr-lt k (32 - k) (subst (λ (n : ℕ). x < 2 ^ n) whole l)
 
-turn-parts : (k x : ℕ) → k ≤ 32 → turn k x ≡ x % 2 ^ (32 - k) * 2 ^ k + x / 2 ^ (32 - k)
-unfolding turn
-turn-parts k x h = ap (λ (n : ℕ). n + x / 2 ^ (32 - k)) (shl-word k x h)
+rotate-parts : (k x : ℕ) → k ≤ 32 → rotateLeft k x ≡ x % 2 ^ (32 - k) * 2 ^ k + x / 2 ^ (32 - k)
+unfolding rotateLeft
+rotate-parts k x h = ap (λ (n : ℕ). n + x / 2 ^ (32 - k)) (shl-word k x h)
 
-pub turn-lt : (k x : ℕ) → k ≤ 32 → x < 2 ^ 32 → turn k x < 2 ^ 32
-turn-lt k x h l =
+pub rotate-lt : (k x : ℕ) → k ≤ 32 → x < 2 ^ 32 → rotateLeft k x < 2 ^ 32
+rotate-lt k x h l =
     let whole : 32 - k + k ≡ 32 = omega arith in
-    subst₂ _<_ (sym (turn-parts k x h)) (sym (pow-add 2 (32 - k) k) ∙ ap (λ (n : ℕ). 2 ^ n) whole)
+    subst₂ _<_ (sym (rotate-parts k x h)) (sym (pow-add 2 (32 - k) k) ∙ ap (λ (n : ℕ). 2 ^ n) whole)
     (digits-lt (mod-lt x (pow-pos (32 - k))) (shr-word k x h l))
 
 -- a bit of the higher and of the lower part of a number
@@ -55,10 +55,10 @@ bit-mod : (x e r : ℕ) → x % 2 ^ (suc r + e) / 2 ^ e % 2 ≡ x / 2 ^ e % 2
 bit-mod x e r =
     sym (bit-low (x / 2 ^ (suc r + e)) (x % 2 ^ (suc r + e)) e r) ∙ ap (λ (n : ℕ). n / 2 ^ e % 2) (split x (suc r + e))
 
-pub bit-turn : (k i x : ℕ) → k ≤ 32 → i < 32 → x < 2 ^ 32 → bit i (turn k x) ≡ bit ((i + k) % 32) x
+pub bit-rotate : (k i x : ℕ) → k ≤ 32 → i < 32 → x < 2 ^ 32 → bit i (rotateLeft k x) ≡ bit ((i + k) % 32) x
 unfolding bit
-bit-turn k i x hk hi hx =
-    rw (turn-parts k x hk)
+bit-rotate k i x hk hi hx =
+    rw (rotate-parts k x hk)
     (by-cases (decLt (i + k) 32)
     (λ l.
     let m : ℕ = 31 - i - k in

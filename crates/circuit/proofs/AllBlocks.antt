@@ -15,45 +15,45 @@ use Rattle.circuit.specs.Layout.{blockWires, messageWires, stateWires}
 use Rattle.circuit.specs.Sequence.{beside, grid}
 use Rattle.circuit.specs.Wires.{blockFirst, resultFirst, startFirst}
 use Rattle.circuit.specs.declared.form.Form.{Form}
-use Rattle.sm3.proofs.Bounds.{chain-words, start-words}
-use Rattle.sm3.specs.Message.{blockBits, chain}
+use Rattle.sm3.proofs.Bounds.{chaining-words, start-words}
+use Rattle.sm3.specs.Message.{blockBits, chainingValue}
 use Rattle.sm3.specs.Sm3.{start}
 
 module _ (a : ℕ → ℕ) (m : ℕ → ℕ) where
   -- the results of block i are what the next block begins with
-  results : (i : ℕ) → Agree a (blockFirst i) 22528 (blockWires (blockBits m i) (chain m i))
-      → Agree a (blockFirst i + 22272) 256 (stateWires (chain m (suc i)))
-  unfolding blockWires computedWires chain
+  results : (i : ℕ) → Agree a (blockFirst i) 22528 (blockWires (blockBits m i) (chainingValue m i))
+      → Agree a (blockFirst i + 22272) 256 (stateWires (chainingValue m (suc i)))
+  unfolding blockWires computedWires chainingValue
   results i e =
-      results-agree a (blockFirst i) (blockBits m i) (chain m i)
+      results-agree a (blockFirst i) (blockBits m i) (chainingValue m i)
       (agree-past a (blockFirst i) (blockFirst i + 512) 512 22016 _ _ refl e)
 
-  pub chain-results : (c : ℕ) → Agree a 513 (22528 * c) (messageWires m) → (i : ℕ) → i < c
-      → Agree a (blockFirst i + 22272) 256 (stateWires (chain m (suc i)))
+  pub chaining-results : (c : ℕ) → Agree a 513 (22528 * c) (messageWires m) → (i : ℕ) → i < c
+      → Agree a (blockFirst i + 22272) 256 (stateWires (chainingValue m (suc i)))
   unfolding messageWires
-  chain-results c e i l =
+  chaining-results c e i l =
       results i (agree-row a 513 c 22528 _ (subst (λ x. Agree a 513 x (messageWires m)) (mul-comm 22528 c) e) i l)
 
   module _ (J : Judged a) (begin : Agree a startFirst 256 (stateWires start)) where
-    begun : (i : ℕ) → ((j : ℕ) → j < i → Agree a (blockFirst j) 22528 (blockWires (blockBits m j) (chain m j)))
-        → CarriesState a (begins i) (chain m i)
-    unfolding begins chain
+    begun : (i : ℕ) → ((j : ℕ) → j < i → Agree a (blockFirst j) 22528 (blockWires (blockBits m j) (chainingValue m j)))
+        → CarriesState a (begins i) (chainingValue m i)
+    unfolding begins chainingValue
     begun zero e = carries-eight a J startFirst start start-words begin
     begun (suc i) e =
-        carries-eight a J (resultFirst (blockFirst i) 0) (chain m (suc i)) (chain-words m (suc i))
+        carries-eight a J (resultFirst (blockFirst i) 0) (chainingValue m (suc i)) (chaining-words m (suc i))
         (agree-at a (blockFirst i + 22272) _ 256 _ (sym (add-zero (blockFirst i + 22272))) (results i (e i (omega arith))))
 
     -- f i are the rows of the bits of block i
-    pub chain-run : (f : ℕ → ℕ → Form) (c : ℕ) → ((k : ℕ) → m k < 2)
+    pub chaining-run : (f : ℕ → ℕ → Form) (c : ℕ) → ((k : ℕ) → m k < 2)
         → ((i : ℕ) → Holds a 512 (f i) ↔ Agree a (blockFirst i) 512 (blockBits m i))
         → (Holds a (32320 * c) (grid 32320 (λ i. beside 512 (f i) (blockForms (blockFirst i) (begins i))))
         ↔ Agree a 513 (22528 * c) (messageWires m))
     unfolding messageWires blockWires computedWires blockBits
-    chain-run f c bits rows =
+    chaining-run f c bits rows =
         subst₂
         (λ x y. Holds a x (grid 32320 (λ i. beside 512 (f i) (blockForms (blockFirst i) (begins i)))) ↔ Agree a 513 y (messageWires m))
         (mul-comm c 32320) (mul-comm c 22528)
         (each a 513 c 32320 22528 _ _
         (λ i l earlier.
         then-at a (blockFirst i) (blockFirst i + 512) 512 31808 512 22016 _ _ _ _ refl (rows i)
-        (block-run a J (blockFirst i) (begins i) (chain m i) (begun i earlier) (blockBits m i) (λ k h. bits (512 * i + k)))))
+        (block-run a J (blockFirst i) (begins i) (chainingValue m i) (begun i earlier) (blockBits m i) (λ k h. bits (512 * i + k)))))

@@ -4,13 +4,13 @@ use Prim.Native.Nat.{ℕ, _-_, _*_, _/_, _%_, _^_, _≤_, _<_}
 use native.Mathlib.Omega.{arith}
 use borrow.Author.Needs.{needs}
 use lib.Bits.{bitOr, or-shifted}
-use Rattle.sm3.specs.Words.{turn}
-use Rattle.sm3.proofs.Turn.{shl-word, shr-word}
-use Rattle.sm3.proofs.words.turn_left.Statement.{statement}
-use Rattle.sm3.proofs.words.turn_left.Tie as tie
+use Rattle.sm3.specs.Words.{rotateLeft}
+use Rattle.sm3.proofs.Rotation.{shl-word, shr-word}
+use Rattle.sm3.proofs.words.rotate_left.Statement.{statement}
+use Rattle.sm3.proofs.words.rotate_left.Tie as tie
 
-joined : (k x : ℕ) → k ≤ 32 → x < 2 ^ 32 → bitOr (x * 2 ^ k % 2 ^ 32) (x / 2 ^ (32 - k)) ≡ turn k x
-unfolding turn
+joined : (k x : ℕ) → k ≤ 32 → x < 2 ^ 32 → bitOr (x * 2 ^ k % 2 ^ 32) (x / 2 ^ (32 - k)) ≡ rotateLeft k x
+unfolding rotateLeft
 joined k x h l = rw (shl-word k x h) (or-shifted (x % 2 ^ (32 - k)) k (x / 2 ^ (32 - k)) (shr-word k x h l))
 
 shl-result : tie.Need-shl-result
@@ -25,5 +25,5 @@ shr-result c = search needs
 returns : tie.Need-returns
 returns c = joined (c .args .k) (c .args .x) (omega arith) (c .fits .x .fits)
 
-pub turn-left-spec : {M : Type 1} → statement M
-turn-left-spec = tie.close (tie.spec shl-result sub-result shr-result returns)
+pub rotate-left-spec : {M : Type 1} → statement M
+rotate-left-spec = tie.close (tie.spec shl-result sub-result shr-result returns)
