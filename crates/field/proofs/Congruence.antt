@@ -17,7 +17,7 @@ pub mul-mod : (a b m : ℕ) → (a * b) % m ≡ (a % m * (b % m)) % m
 mul-mod a b m = sym (mod-mul-mod a (b % m) m ∙ mul-mod-mod a b m)
 
 module _ (m a a′ b b′ : ℕ) (left : a % m ≡ a′ % m) (right : b % m ≡ b′ % m) where
-  pub add-congr : (a + b) % m ≡ (a′ + b′) % m
+  add-congr : (a + b) % m ≡ (a′ + b′) % m
   add-congr = add-mod a b m ∙ ap₂ (λ (x y : ℕ). (x + y) % m) left right ∙ sym (add-mod a′ b′ m)
 
   pub mul-congr : (a * b) % m ≡ (a′ * b′) % m

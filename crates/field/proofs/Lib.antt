@@ -1,7 +1,7 @@
 pub mod Congruence
 pub mod Prime
 mod Lucas
-mod Order
+mod PowerOrder
 mod Pigeonhole
 mod Power
 mod Split

@@ -11,7 +11,7 @@ use native.Mathlib.Nat.{mod-eq-of-lt, mod-lt, mul-assoc, mul-zero, not-suc-le-ze
 use native.Mathlib.Omega.{arith}
 use lib.Pow.{pow-add}
 use Rattle.field.proofs.Congruence.{mul-congr}
-use Rattle.field.proofs.Order.{certificate, order-divides, pow-order, product}
+use Rattle.field.proofs.PowerOrder.{certificate, order-divides, pow-order, product}
 use Rattle.field.proofs.Pigeonhole.{pigeonhole}
 use Rattle.field.proofs.Power.{one-mul-mod}
 

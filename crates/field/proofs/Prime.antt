@@ -1,10 +1,8 @@
 -- p has no zero divisors, by Lucas's criterion: 37 has the order p - 1 modulo p, which is computed from the primes of p - 1.
--- So w (w - 1) is 0 modulo p for no other residues than 0 and 1.
 use mathlib.Core.List.{List, [], _∷_}
-use mathlib.Core.Logic.{_⊎_, ⊎-elim}
+use mathlib.Core.Logic.{_⊎_}
 use mathlib.Core.Path.{_≡_, refl}
-use Prim.Native.Nat.{ℕ, zero, suc, _+_, _-_, _*_, _%_, _<_}
-use native.Mathlib.Omega.{arith}
+use Prim.Native.Nat.{ℕ, zero, _-_, _*_, _%_}
 use Rattle.field.specs.Field.{p}
 use Rattle.field.proofs.Lucas.{lucas}
 use Rattle.field.proofs.Power.{power}
@@ -16,11 +14,3 @@ factors = 1321 ∷ 331 ∷ 151 ∷ 61 ∷ 41 ∷ 31 ∷ 13 ∷ 11 ∷ 7 ∷ 5 �
 pub no-zero-divisors : (a b : ℕ) → (a * b) % p ≡ 0 → (a % p ≡ 0) ⊎ (b % p ≡ 0)
 unfolding power
 no-zero-divisors = lucas p 37 factors refl refl
-
-pub bit-roots : (w : ℕ) → w < p → (w * (w + (p - 1))) % p ≡ 0 → w < 2
-bit-roots w h e = ⊎-elim (λ l. omega arith) (λ r. omega arith) (no-zero-divisors w (w + (p - 1)) e)
-
-pub bit-is-root : (w : ℕ) → w < 2 → (w * (w + (p - 1))) % p ≡ 0
-bit-is-root zero h = refl
-bit-is-root (suc zero) h = refl
-bit-is-root (suc (suc w)) h = absurd (omega arith)

@@ -32,7 +32,7 @@ pub fn sum(a: u64, b: u64) -> u64
 }
 
 // The whole product of two numbers of 31 bits.
-fn wide(x: u64, y: u64) -> u64
+fn whole_product(x: u64, y: u64) -> u64
     requires { ⌜ (x < 2 ^ 31) × (y < 2 ^ 31) ⌝ }
     ensures { λ r. ⌜ (r ≡ x * y) × (r < 2 ^ 62) ⌝ }
 {
@@ -49,7 +49,7 @@ pub fn product(a: u64, b: u64) -> u64
     let a0 = a % TWO_31;
     let b1 = b / TWO_31;
     let b0 = b % TWO_31;
-    let middle = wide(a1, b0) + wide(a0, b1);
-    let high = wide(a1, b1) * 2 + middle / TWO_30;
-    reduce(high + middle % TWO_30 * TWO_31 + wide(a0, b0))
+    let middle = whole_product(a1, b0) + whole_product(a0, b1);
+    let high = whole_product(a1, b1) * 2 + middle / TWO_30;
+    reduce(high + middle % TWO_30 * TWO_31 + whole_product(a0, b0))
 }

@@ -5,17 +5,17 @@ use Rattle.field.proofs.Split.{folded}
 use Rattle.field.proofs.product.Statement.{statement}
 use Rattle.field.proofs.product.Tie as tie
 
-wide-requires : tie.Need-wide-requires
-wide-requires c κs = search needs
+whole-product-requires : tie.Need-whole-product-requires
+whole-product-requires c κs = search needs
 
-wide-requires-2 : tie.Need-wide-requires-2
-wide-requires-2 c κs = search needs
+whole-product-requires-2 : tie.Need-whole-product-requires-2
+whole-product-requires-2 c κs = search needs
 
 add-middle : tie.Need-add-middle
 add-middle c = search needs
 
-wide-requires-3 : tie.Need-wide-requires-3
-wide-requires-3 c κs = search needs
+whole-product-requires-3 : tie.Need-whole-product-requires-3
+whole-product-requires-3 c κs = search needs
 
 mul-high : tie.Need-mul-high
 mul-high c = search needs
@@ -29,8 +29,8 @@ mul-reduce c = search needs
 add-reduce : tie.Need-add-reduce
 add-reduce c = search needs
 
-wide-requires-4 : tie.Need-wide-requires-4
-wide-requires-4 c κs = search needs
+whole-product-requires-4 : tie.Need-whole-product-requires-4
+whole-product-requires-4 c κs = search needs
 
 add-reduce-2 : tie.Need-add-reduce-2
 add-reduce-2 c = search needs
@@ -42,24 +42,24 @@ returns : tie.Need-returns
 returns c =
     c .reduce .ensures
     ∙ folded _ _ _ _ _ _
-    (c .before .before .wide3 .ensures .0)
-    (c .before .before .before .before .wide .ensures .0)
-    (c .before .before .before .wide2 .ensures .0)
-    (c .before .wide4 .ensures .0)
+    (c .before .before .whole-product3 .ensures .0)
+    (c .before .before .before .before .whole-product .ensures .0)
+    (c .before .before .before .whole-product2 .ensures .0)
+    (c .before .whole-product4 .ensures .0)
 
 pub product-spec : {M : Type 1} → statement M
 product-spec =
     tie.close
     (tie.spec
-    wide-requires
-    wide-requires-2
+    whole-product-requires
+    whole-product-requires-2
     add-middle
-    wide-requires-3
+    whole-product-requires-3
     mul-high
     add-high
     mul-reduce
     add-reduce
-    wide-requires-4
+    whole-product-requires-4
     add-reduce-2
     reduce-requires
     returns)

@@ -15,12 +15,12 @@ use Rattle.field.proofs.Congruence.{mul-congr, pow-congr}
 use Rattle.field.proofs.Power.{one-mul-mod, one-pow-mod, pow-mul, pow-one, pow-pow-mod, power, power-is}
 
 -- each number r from 1 to n has the inverse r ^ (q - 2) modulo q
-abbrev pub inverted : ℕ → ℕ → Bool
+abbrev inverted : ℕ → ℕ → Bool
 inverted q zero = true
 inverted q (suc n) = eqb (suc n * suc n ^ (q - 2) % q) 1 && inverted q n
 
 -- each number from 1 to q - 1 has an inverse modulo q
-abbrev pub prime : ℕ → Bool
+abbrev prime : ℕ → Bool
 prime zero = false
 prime (suc n) = inverted (suc n) n
 
