@@ -1,0 +1,4 @@
+pub mod Bits
+pub mod Bytes
+pub mod Sequence
+pub mod Written

@@ -1,0 +1,3 @@
+// Numbers and bits as bytes, read from and written into lent buffers.
+pub mod read;
+pub mod write;
