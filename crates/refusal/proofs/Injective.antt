@@ -1,0 +1,75 @@
+-- The packing is injective: an answer can be read back from its number. The low byte tells which refusal it is, and its value
+-- stands above.
+use mathlib.Core.Bool.{cond}
+use mathlib.Core.Path.{_≡_, ap, refl, sym, _∙_}
+use Prim.Native.Nat.{ℕ, _+_, _*_, _/_, _%_, _<_}
+use native.Mathlib.Omega.{arith}
+use lib.Dec.{eqb}
+use Rattle.refusal.specs.Packing.{packed, packedOutcome}
+use Rattle.refusal.specs.Refusals.{refusalNumber, refusalValues}
+use Rattle.refusal.specs.declared.outcome.Outcome.{Outcome}
+use Rattle.refusal.specs.declared.outcome.Outcome.the-variants.{Done, Refused}
+use Rattle.refusal.specs.declared.outcome.Refusal.{Refusal}
+use Rattle.refusal.specs.declared.outcome.Refusal.the-variants.{LengthAboveLimit, RowOutOfRange, BufferTooShort, DigestNot32, WrongLength, WireZero, DigestWire, Unsatisfied}
+
+-- what can be read back is equal where its numbers are
+pub injective : {A : Type 0} (f : A → ℕ) (g : ℕ → A) {a b : A} → g (f a) ≡ a → g (f b) ≡ b → f a ≡ f b → a ≡ b
+injective f g p q e = sym p ∙ ap g e ∙ q
+
+-- a byte and what stands above it
+pub apart : (x y v : ℕ) → x < 256 → v ≡ x + 256 * y → (v % 256 ≡ x) × (v / 256 ≡ y)
+apart x y v small e = (omega arith, omega arith)
+
+-- a refusal by its number and its value
+refusalOfNumber : ℕ → ℕ → Refusal
+refusalOfNumber n k =
+    cond (eqb n 2) LengthAboveLimit
+    (cond (eqb n 3) RowOutOfRange
+    (cond (eqb n 4) BufferTooShort
+    (cond (eqb n 5) DigestNot32
+    (cond (eqb n 6) WrongLength
+    (cond (eqb n 7) WireZero
+    (cond (eqb n 8) DigestWire (Unsatisfied (record { 0 = k }))))))))
+
+refusalBack : ℕ → Refusal
+refusalBack v = refusalOfNumber (v % 256) (v / 256)
+
+named-back : (k v : ℕ) → v ≡ 9 + 256 * k → refusalBack v ≡ Unsatisfied (record { 0 = k })
+unfolding refusalBack refusalOfNumber
+named-back k v e =
+    let number = apart 9 k v (omega arith) e in
+    rw (number .0, number .1)
+
+refusal-back : (r : Refusal) → refusalBack (packed (refusalNumber r) (refusalValues r)) ≡ r
+unfolding refusalBack refusalOfNumber
+refusal-back LengthAboveLimit = refl
+refusal-back RowOutOfRange = refl
+refusal-back BufferTooShort = refl
+refusal-back DigestNot32 = refl
+refusal-back WrongLength = refl
+refusal-back WireZero = refl
+refusal-back DigestWire = refl
+refusal-back (Unsatisfied k) =
+    named-back (k .0) (packed (refusalNumber (Unsatisfied k)) (refusalValues (Unsatisfied k))) (omega arith)
+
+pub refusal-injective : (r s : Refusal)
+    → packed (refusalNumber r) (refusalValues r) ≡ packed (refusalNumber s) (refusalValues s) → r ≡ s
+refusal-injective r s =
+    injective (λ t. packed (refusalNumber t) (refusalValues t)) refusalBack (refusal-back r) (refusal-back s)
+
+-- a refusal's low byte is not 0
+pub refused : (r : Refusal) → packed (refusalNumber r) (refusalValues r) % 256 ≡ 0 → ⊥
+refused LengthAboveLimit e = omega arith
+refused RowOutOfRange e = omega arith
+refused BufferTooShort e = omega arith
+refused DigestNot32 e = omega arith
+refused WrongLength e = omega arith
+refused WireZero e = omega arith
+refused DigestWire e = omega arith
+refused (Unsatisfied k) e = omega arith
+
+pub outcome-injective : (a b : Outcome) → packedOutcome a ≡ packedOutcome b → a ≡ b
+outcome-injective Done Done e = refl
+outcome-injective Done (Refused r) e = absurd (refused r (ap (λ v. v % 256) (sym e)))
+outcome-injective (Refused r) Done e = absurd (refused r (ap (λ v. v % 256) e))
+outcome-injective (Refused r) (Refused s) e = ap Refused (refusal-injective r s e)

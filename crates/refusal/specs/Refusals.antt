@@ -1,0 +1,51 @@
+-- The paper's number of every refusal and its values (document 01, "Refusals in checking order": "Each returns its number
+-- and nothing else unless said; no lent byte changes"), and what an operation leaves in a buffer.
+use mathlib.Core.List.{List, [], _∷_}
+use Prim.Native.Nat.{ℕ}
+use Rattle.refusal.specs.declared.outcome.Outcome.{Outcome}
+use Rattle.refusal.specs.declared.outcome.Outcome.the-variants.{Done, Refused}
+use Rattle.refusal.specs.declared.outcome.Refusal.{Refusal}
+use Rattle.refusal.specs.declared.outcome.Refusal.the-variants.{LengthAboveLimit, RowOutOfRange, BufferTooShort, DigestNot32, WrongLength, WireZero, DigestWire, Unsatisfied}
+
+abbrev pub refusalNumber : Refusal → ℕ
+-- "2. The record length is above 1,015."
+refusalNumber LengthAboveLimit = 2
+-- "3. The row number is not below the row count"
+refusalNumber RowOutOfRange = 3
+-- "4. The buffer to be written is shorter than .."
+refusalNumber BufferTooShort = 4
+-- "5. The digest that an assignment is held against is not 32 bytes."
+refusalNumber DigestNot32 = 5
+-- "6. An assignment of 8-byte entries handed over to be read is not exactly 8 × wires bytes."
+refusalNumber WrongLength = 6
+-- "7. Wire 0 does not read as 1."
+refusalNumber WireZero = 7
+-- "8. A digest wire does not read as its bit of the digest."
+refusalNumber DigestWire = 8
+-- "9. A row is not satisfied"
+refusalNumber (Unsatisfied k) = 9
+
+abbrev pub refusalValues : Refusal → List ℕ
+refusalValues LengthAboveLimit = []
+refusalValues RowOutOfRange = []
+refusalValues BufferTooShort = []
+refusalValues DigestNot32 = []
+refusalValues WrongLength = []
+refusalValues WireZero = []
+refusalValues DigestWire = []
+-- "the lowest row that is not satisfied is returned with it"
+refusalValues (Unsatisfied k) = k .0 ∷ []
+
+-- the answer of an operation that hands nothing back: 0 for no refusal
+abbrev pub outcomeNumber : Outcome → ℕ
+outcomeNumber Done = 0
+outcomeNumber (Refused r) = refusalNumber r
+
+abbrev pub outcomeValues : Outcome → List ℕ
+outcomeValues Done = []
+outcomeValues (Refused r) = refusalValues r
+
+-- what is left of a lent buffer: `written` where the operation is done; "no lent byte changes" on a refusal
+abbrev pub left : Outcome → List ℕ → List ℕ → List ℕ
+left Done written before = written
+left (Refused r) written before = before

@@ -1,0 +1,47 @@
+// Refusals, and the answer of an operation that hands nothing back.
+ghost use mathlib.Core.Path.{_≡_};
+ghost use Prim.Native.Nat.{_<_};
+ghost use Rattle.refusal.specs.Refusals.{refusalNumber};
+use crate::numbers::RowNumber;
+
+// The refusals that several operations share, in the order of their numbers.
+pub enum Refusal {
+    // 2: the record length is above 1,015.
+    LengthAboveLimit,
+    // 3: the row number is not below the row count.
+    RowOutOfRange,
+    // 4: the buffer to be written is shorter than its result.
+    BufferTooShort,
+    // 5: the digest is not 32 bytes.
+    DigestNot32,
+    // 6: the assignment is not 8 bytes a wire.
+    WrongLength,
+    // 7: wire 0 does not read as 1.
+    WireZero,
+    // 8: a digest wire does not read as its bit of the digest.
+    DigestWire,
+    // 9: the lowest row that is not satisfied.
+    Unsatisfied(RowNumber),
+}
+
+// The answer of an operation that hands nothing back: it is done, or it is refused and no lent byte is altered.
+pub enum Outcome {
+    Done,
+    Refused(Refusal),
+}
+
+// The paper's number of a refusal, a byte.
+pub fn number_of(refusal: Refusal) -> u64
+    ensures { λ r. ⌜ (r ≡ refusalNumber refusal) × (r < 256) ⌝ }
+{
+    match refusal {
+        Refusal::LengthAboveLimit => 2,
+        Refusal::RowOutOfRange => 3,
+        Refusal::BufferTooShort => 4,
+        Refusal::DigestNot32 => 5,
+        Refusal::WrongLength => 6,
+        Refusal::WireZero => 7,
+        Refusal::DigestWire => 8,
+        Refusal::Unsatisfied(_) => 9,
+    }
+}
