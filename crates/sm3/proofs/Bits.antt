@@ -44,7 +44,7 @@ bit-xor = bit-op bitXor (λ p q. (p + q) % 2) xor-shr xor-mod refl refl refl ref
 pub bit-and : (i x y : ℕ) → bit i (bitAnd x y) ≡ min (bit i x) (bit i y)
 bit-and = bit-op bitAnd min and-shr and-mod refl refl refl refl
 
-pub bit-or : (i x y : ℕ) → bit i (bitOr x y) ≡ max (bit i x) (bit i y)
+bit-or : (i x y : ℕ) → bit i (bitOr x y) ≡ max (bit i x) (bit i y)
 bit-or = bit-op bitOr max or-shr or-mod refl refl refl refl
 
 pub bit-xor-3 : (i x y z : ℕ) → bit i (x ⊕ y ⊕ z) ≡ (bit i x + bit i y + bit i z) % 2
@@ -73,7 +73,7 @@ not-shr x j e h =
     let rest : 2 ^ e - 1 - x % 2 ^ e < 2 ^ e = omega arith in
     ap (λ (n : ℕ). n / 2 ^ e) parts ∙ high d e rest
 
-pub bit-not : (i x : ℕ) → x < 2 ^ 32 → bit i (2 ^ 32 - 1 - x) ≡ 1 - bit i x
+bit-not : (i x : ℕ) → x < 2 ^ 32 → bit i (2 ^ 32 - 1 - x) ≡ 1 - bit i x
 unfolding bit
 bit-not i x h =
     let e : ℕ = 31 - i in

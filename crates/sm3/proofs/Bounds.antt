@@ -9,12 +9,12 @@ use borrow.Author.Tests.{ltb-true}
 use lib.Bits.{and-lt, or-lt, xor-lt}
 use lib.Dec.{eqb, lit<, ltb}
 use lib.ListN.{getD}
-use Rattle.sm3.specs.Message.{blocks, chainingValue, digestOf, message}
+use Rattle.sm3.specs.Message.{blocks, chainingValue, message}
 use Rattle.sm3.specs.Sm3.{_⊕_, FF, GG, P0, P1, block, blockWord, choice, constant, dropped, expanded, expansion, extended, majority, mixed, nextWord, pairWord, roundOf, rounds, start, rotatedConstant, xorState}
 use Rattle.sm3.specs.Words.{rotateLeft}
 use Rattle.sm3.specs.declared.state.State.{State}
-use Rattle.sm3.proofs.Numbers.{number-lt}
 use Rattle.sm3.proofs.Rotation.{rotate-lt}
+use Rattle.encoding.proofs.Bits.{number-lt}
 
 -- both cases of a test are below m
 cond-lt : (t : Bool) (x y m : ℕ) → (t ≡ true → x < m) → (t ≡ false → y < m) → cond t x y < m
@@ -36,19 +36,19 @@ pub choice-lt : (x y z : ℕ) → x < 2 ^ 32 → y < 2 ^ 32 → z < 2 ^ 32 → c
 unfolding choice
 choice-lt x y z hx hy hz = or-lt 32 _ _ (and-lt 32 x y hx hy) (and-lt 32 (2 ^ 32 - 1 - x) z (omega arith) hz)
 
-pub FF-lt : (j x y z : ℕ) → x < 2 ^ 32 → y < 2 ^ 32 → z < 2 ^ 32 → FF j x y z < 2 ^ 32
+FF-lt : (j x y z : ℕ) → x < 2 ^ 32 → y < 2 ^ 32 → z < 2 ^ 32 → FF j x y z < 2 ^ 32
 unfolding FF
 FF-lt j x y z hx hy hz = cond-lt (ltb j 16) _ _ (2 ^ 32) (λ t. xor-3-lt x y z hx hy hz) (λ t. majority-lt x y z hx hy hz)
 
-pub GG-lt : (j x y z : ℕ) → x < 2 ^ 32 → y < 2 ^ 32 → z < 2 ^ 32 → GG j x y z < 2 ^ 32
+GG-lt : (j x y z : ℕ) → x < 2 ^ 32 → y < 2 ^ 32 → z < 2 ^ 32 → GG j x y z < 2 ^ 32
 unfolding GG
 GG-lt j x y z hx hy hz = cond-lt (ltb j 16) _ _ (2 ^ 32) (λ t. xor-3-lt x y z hx hy hz) (λ t. choice-lt x y z hx hy hz)
 
-pub P0-lt : (x : ℕ) → x < 2 ^ 32 → P0 x < 2 ^ 32
+P0-lt : (x : ℕ) → x < 2 ^ 32 → P0 x < 2 ^ 32
 unfolding P0
 P0-lt x h = xor-3-lt x (rotateLeft 9 x) (rotateLeft 17 x) h (rotate-lt 9 x (omega arith) h) (rotate-lt 17 x (omega arith) h)
 
-pub P1-lt : (x : ℕ) → x < 2 ^ 32 → P1 x < 2 ^ 32
+P1-lt : (x : ℕ) → x < 2 ^ 32 → P1 x < 2 ^ 32
 unfolding P1
 P1-lt x h = xor-3-lt x (rotateLeft 15 x) (rotateLeft 23 x) h (rotate-lt 15 x (omega arith) h) (rotate-lt 23 x (omega arith) h)
 
@@ -63,7 +63,7 @@ rotatedConstant-lt j = rotate-lt (j % 32) (constant j) (omega arith) (constant-l
 -- The words of an expansion.
 
 -- every word of a list; past its end stands 0
-abbrev pub AllWords : List ℕ → Type 0
+abbrev AllWords : List ℕ → Type 0
 AllWords w = (k : ℕ) → getD w k 0 < 2 ^ 32
 
 all-snoc : (w : List ℕ) (x : ℕ) → AllWords w → x < 2 ^ 32 → AllWords (w ++ (x ∷ []))
@@ -79,10 +79,6 @@ mixed-lt w j hw = xor-3-lt _ _ _ (hw (j - 16)) (hw (j - 9)) (rotate-lt 15 _ (ome
 expanded-lt : (w : List ℕ) (j : ℕ) → AllWords w → expanded w j < 2 ^ 32
 unfolding expanded
 expanded-lt w j hw = xor-3-lt _ _ _ (P1-lt _ (mixed-lt w j hw)) (rotate-lt 7 _ (omega arith) (hw (j - 13))) (hw (j - 6))
-
-pub pairWord-lt : (w : List ℕ) (j : ℕ) → AllWords w → pairWord w j < 2 ^ 32
-unfolding pairWord
-pairWord-lt w j hw = xor-lt 32 _ _ (hw j) (hw (j + 4))
 
 -- of a block whose bits are 0 or 1
 pub expansion-lt : (bits : ℕ → ℕ) → ((k : ℕ) → k < 512 → bits k < 2) → (n k : ℕ) → getD (expansion bits n) k 0 < 2 ^ 32
@@ -126,7 +122,7 @@ start-words =
       h = lit< tt;
     }
 
-pub round-words : (j word pair : ℕ) (s : State) → Words s → Words (roundOf j word pair s)
+round-words : (j word pair : ℕ) (s : State) → Words s → Words (roundOf j word pair s)
 unfolding roundOf
 round-words j word pair s w =
     record {
@@ -140,12 +136,12 @@ round-words j word pair s w =
       h = w .g;
     }
 
-pub rounds-words : (w : List ℕ) (v : State) → Words v → (j : ℕ) → Words (rounds w v j)
+rounds-words : (w : List ℕ) (v : State) → Words v → (j : ℕ) → Words (rounds w v j)
 unfolding rounds
 rounds-words w v hv zero = hv
 rounds-words w v hv (suc j) = round-words j (getD w j 0) (pairWord w j) (rounds w v j) (rounds-words w v hv j)
 
-pub xor-words : (s v : State) → Words s → Words v → Words (xorState s v)
+xor-words : (s v : State) → Words s → Words v → Words (xorState s v)
 unfolding xorState
 xor-words s v hs hv =
     record {
@@ -167,7 +163,3 @@ pub chaining-words : (m : ℕ → ℕ) (i : ℕ) → Words (chainingValue m i)
 unfolding chainingValue
 chaining-words m zero = start-words
 chaining-words m (suc i) = block-words _ (chainingValue m i) (chaining-words m i)
-
-pub digest-words : (n : ℕ) (r : ℕ → ℕ) → Words (digestOf n r)
-unfolding digestOf
-digest-words n r = chaining-words _ _

@@ -1,9 +1,4 @@
 pub mod Bits
 pub mod Bounds
-pub mod Bytes
-pub mod Front
-pub mod Numbers
-pub mod Sums
-pub mod Tab
 pub mod Rotation
-pub mod Writes
+pub mod WordBits

@@ -1,16 +1,22 @@
 -- The message of a record and its digest (document 01, "SM3 as used" and "The words of demand 3"). A record is n bits;
 -- that it comes in whole bytes is a matter of the operations.
 use mathlib.Core.Bool.{cond}
-use mathlib.Core.List.{List, [], _∷_, _++_}
+use mathlib.Core.List.{List, _++_}
 use Prim.Native.Nat.{ℕ, zero, suc, _+_, _-_, _*_, _/_, _%_, _^_}
 use lib.Dec.{ltb, eqb}
-use lib.ListN.{length, getD}
+use lib.ListN.{length}
+use Rattle.encoding.specs.Bits.{bitOfBytes}
+use Rattle.encoding.specs.Bytes.{highestFirst}
 use Rattle.sm3.specs.Sm3.{start, block}
 use Rattle.sm3.specs.declared.state.State.{State}
 
--- "the highest bit of a byte come[s] first": bit k of a list of bytes
-unfoldable pub bitOfBytes : List ℕ → ℕ → ℕ
-bitOfBytes bytes k = getD bytes (k / 8) 0 / 2 ^ (7 - k % 8) % 2
+-- "Record of L bytes, 0 to 1,015"
+abbrev pub longest : ℕ
+longest = 1015
+
+-- the most bits that are padded to as many blocks as 1,015 bytes are: one more bit, and the message has a block more
+abbrev pub mostBits : ℕ
+mostBits = 8127
 
 -- "blocks n = floor((L + 8) / 64) + 1", in bits
 unfoldable pub blocks : ℕ → ℕ
@@ -37,14 +43,11 @@ chainingValue m (suc i) = block (blockBits m i) (chainingValue m i)
 unfoldable pub digestOf : ℕ → (ℕ → ℕ) → State
 digestOf n r = chainingValue (message n r) (blocks n)
 
--- "in .. digests the highest byte of a word .. come[s] first": the 4 bytes of a word, the 32 bytes of eight words
-unfoldable pub bytesOfWord : ℕ → List ℕ
-bytesOfWord x = x / 2 ^ 24 ∷ x / 2 ^ 16 % 256 ∷ x / 2 ^ 8 % 256 ∷ x % 256 ∷ []
-
+-- "in .. digests the highest byte of a word .. come[s] first": the 32 bytes of eight words
 unfoldable pub bytesOf : State → List ℕ
 bytesOf s =
-    bytesOfWord (s .a) ++ bytesOfWord (s .b) ++ bytesOfWord (s .c) ++ bytesOfWord (s .d)
-    ++ bytesOfWord (s .e) ++ bytesOfWord (s .f) ++ bytesOfWord (s .g) ++ bytesOfWord (s .h)
+    highestFirst 4 (s .a) ++ highestFirst 4 (s .b) ++ highestFirst 4 (s .c) ++ highestFirst 4 (s .d)
+    ++ highestFirst 4 (s .e) ++ highestFirst 4 (s .f) ++ highestFirst 4 (s .g) ++ highestFirst 4 (s .h)
 
 -- the digest of a record of whole bytes
 unfoldable pub digestBytes : List ℕ → List ℕ

@@ -2,12 +2,13 @@
 -- dropped, under a name of its own; the word is that sum modulo 2^32.
 use mathlib.Core.Bool.{cond}
 use mathlib.Core.List.{List, [], _∷_, _++_}
-use Prim.Native.Nat.{ℕ, zero, suc, _+_, _-_, _*_, _/_, _%_, _^_}
+use Prim.Native.Nat.{ℕ, zero, suc, _+_, _-_, _*_, _%_, _^_}
 use lib.Bits.{bitXor, bitAnd, bitOr}
 use lib.Dec.{ltb}
 use lib.ListN.{getD}
-use Rattle.sm3.specs.Words.{number, rotateLeft}
+use Rattle.sm3.specs.Words.{rotateLeft}
 use Rattle.sm3.specs.declared.state.State.{State}
+use Rattle.encoding.specs.Bits.{number}
 
 infixl 60 _⊕_
 -- xor of two words

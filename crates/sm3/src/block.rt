@@ -3,7 +3,7 @@ ghost use mathlib.Core.Path.{_≡_};
 ghost use Prim.Native.Nat.{ℕ};
 ghost use lib.ListN.{take};
 ghost use Rattle.sm3.specs.Sm3.{block, expansion, rotatedConstant};
-ghost use Rattle.sm3.specs.Words.{tab};
+ghost use Rattle.encoding.specs.Sequence.{tab};
 use crate::rounds::all_rounds;
 use crate::state::State;
 use crate::state::xor_states;

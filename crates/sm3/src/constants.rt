@@ -2,7 +2,7 @@
 ghost use mathlib.Core.Path.{_≡_};
 ghost use Prim.Native.Nat.{_<_};
 ghost use Rattle.sm3.specs.Sm3.{start, rotatedConstant, wordOf};
-ghost use Rattle.sm3.specs.Words.{tab};
+ghost use Rattle.encoding.specs.Sequence.{tab};
 use crate::state::State;
 
 // The words that block 0 begins with.

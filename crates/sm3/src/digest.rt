@@ -1,34 +1,19 @@
 // The digest of a record into a lent buffer.
 ghost use mathlib.Core.Path.{_≡_};
 ghost use mathlib.Core.List.{_++_};
-ghost use Prim.Native.Nat.{_+_, _≤_};
+ghost use Prim.Native.Nat.{_≤_};
 ghost use lib.ListN.{length, drop};
-ghost use lib.Seq.{sets};
 ghost use Rattle.sm3.specs.Digest.{digestAnswer, digestLeft};
-ghost use Rattle.sm3.specs.Message.{bytesOf, bytesOfWord};
+ghost use Rattle.sm3.specs.Message.{bytesOf};
+use crate::message::LONGEST;
 use crate::message::hash;
 use crate::state::State;
+use encoding::write::put_word;
+use refusal::outcome::Outcome;
+use refusal::outcome::Refusal;
 
-// The answer of `digest`.
-pub enum DigestAnswer {
-    // The digest is written.
-    Written,
-    // Refusal 2: the record is longer than 1,015 bytes.
-    LengthAboveLimit,
-    // Refusal 4: the buffer is shorter than 32 bytes.
-    BufferTooShort,
-}
-
-// The four bytes of a word from `at` on, the highest first.
-fn put_word(out: &mut [u8], at: usize, w: u32)
-    requires { ⌜ at + 4 ≤ length (now out) ⌝ }
-    ensures { λ _. ⌜ now (out .exit) ≡ sets (now (out .entry)) at (bytesOfWord w) ⌝ }
-{
-    out[at] = (w / 16777216) as u8;
-    out[at + 1] = (w / 65536 % 256) as u8;
-    out[at + 2] = (w / 256 % 256) as u8;
-    out[at + 3] = (w % 256) as u8;
-}
+// The bytes of a digest.
+const DIGEST_BYTES: usize = 32;
 
 // The 32 bytes of a digest at the front of a buffer.
 fn put_digest(out: &mut [u8], s: State)
@@ -46,17 +31,17 @@ fn put_digest(out: &mut [u8], s: State)
 }
 
 // The digest of a record of at most 1,015 bytes, into the first 32 bytes of `out`.
-pub fn digest(bytes: &[u8], out: &mut [u8]) -> DigestAnswer
+pub fn digest(bytes: &[u8], out: &mut [u8]) -> Outcome
     ensures { λ r. ⌜ r ≡ digestAnswer (length (now (bytes .entry))) (length (now (out .entry))) ⌝ }
     ensures { λ r. ⌜ now (out .exit) ≡ digestLeft r (now (bytes .entry)) (now (out .entry)) ⌝ }
 {
-    if 1015 < bytes.len() {
-        return DigestAnswer::LengthAboveLimit;
+    if LONGEST < bytes.len() as u64 {
+        return Outcome::Refused(Refusal::LengthAboveLimit);
     }
-    if out.len() < 32 {
-        return DigestAnswer::BufferTooShort;
+    if out.len() < DIGEST_BYTES {
+        return Outcome::Refused(Refusal::BufferTooShort);
     }
     let s = hash(bytes);
     put_digest(out, s);
-    DigestAnswer::Written
+    Outcome::Done
 }

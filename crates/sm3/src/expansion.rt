@@ -2,29 +2,11 @@
 ghost use mathlib.Core.Path.{_≡_};
 ghost use Prim.Native.Nat.{ℕ, _+_, _*_, _<_, _≤_};
 ghost use lib.ListN.{length, take};
-ghost use Rattle.sm3.specs.Message.{bitOfBytes};
 ghost use Rattle.sm3.specs.Sm3.{expanded, expansion};
-ghost use Rattle.sm3.specs.Words.{number};
+ghost use Rattle.encoding.specs.Bits.{bitOfBytes};
 use crate::words::p1;
 use crate::words::rotate_left;
-
-// A byte as a word.
-fn wide(x: u8) -> u32
-    ensures { λ r. ⌜ (r ≡ x) × (r < 256) ⌝ }
-{
-    x as u32
-}
-
-// The word of the four bytes from `at` on, the highest byte first.
-fn word_at(bytes: &[u8], at: usize) -> u32
-    requires { ⌜ at + 4 ≤ length (now bytes) ⌝ }
-    ensures { λ r. ⌜ r ≡ number 32 (λ (i : ℕ). bitOfBytes (now (bytes .entry)) (8 * at + i)) ⌝ }
-{
-    wide(bytes[at]) * 16777216
-        + wide(bytes[at + 1]) * 65536
-        + wide(bytes[at + 2]) * 256
-        + wide(bytes[at + 3])
-}
+use encoding::read::word_at;
 
 // W0 to W15 of the block of 64 bytes from `at` on, with room for the words after them.
 pub fn block_words(bytes: &[u8], at: usize) -> [u32; 68]

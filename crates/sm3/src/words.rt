@@ -1,8 +1,8 @@
 // The standard's functions on words of 32 bits.
 ghost use mathlib.Core.Path.{_≡_};
-ghost use Prim.Native.Nat.{_+_, _%_, _^_, _<_};
+ghost use Prim.Native.Nat.{_+_, _^_, _<_};
 ghost use Rattle.sm3.specs.Words.{rotateLeft};
-ghost use Rattle.sm3.specs.Sm3.{_⊕_, P0, P1, majority, choice, dropped};
+ghost use Rattle.sm3.specs.Sm3.{P0, P1, majority, choice, dropped};
 
 // x rotated left by k bits.
 pub fn rotate_left(x: u32, k: u32) -> u32

@@ -9,14 +9,14 @@ use native.Mathlib.Omega.{arith}
 use borrow.Author.Tests.{eq-eqb, ne-eqb, lt-ltb, le-ltb}
 use lib.ListN.{length, getD, set, List·getD-eq-default}
 use lib.Pow.{pow-mono}
-use Rattle.sm3.specs.Message.{blocks}
-use Rattle.sm3.specs.Words.{tab}
-use Rattle.sm3.proofs.Tab.{tab-congruent}
-use Rattle.sm3.proofs.Writes.{wrote, set-tab}
+use Rattle.sm3.specs.Message.{blocks, longest}
 use Rattle.sm3.proofs.message.Padding.{blocks-of-bytes, ended, messageByte}
+use Rattle.encoding.proofs.Filling.{set-tab, wrote}
+use Rattle.encoding.proofs.Tab.{tab-congruent}
+use Rattle.encoding.specs.Sequence.{tab}
 
 -- of the bytes of a bit length 8 * n, counted from the last, all but two are 0
-high-byte : (n m : ℕ) → n ≤ 1015 → 2 ≤ m → 8 * n / 2 ^ (8 * m) % 256 ≡ 0
+high-byte : (n m : ℕ) → n ≤ longest → 2 ≤ m → 8 * n / 2 ^ (8 * m) % 256 ≡ 0
 high-byte n m h l =
     let bits : 16 ≤ 8 * m = omega arith in
     let large : 2 ^ 16 ≤ 2 ^ (8 * m) = pow-mono bits in
@@ -64,7 +64,7 @@ module _ (bytes : List ℕ) (i : ℕ) where
   not-last h =
       tab-congruent 64 _ _ (λ x l. sym (simp (lt-ltb (64 * i + x + 8) size (omega (arith, blocks-of-bytes L)))))
 
-  module _ (h : L + 9 ≤ 64 * i + 64) (l : i < blocks (8 * L)) (short : L ≤ 1015) where
+  module _ (h : L + 9 ≤ 64 * i + 64) (l : i < blocks (8 * L)) (short : L ≤ longest) where
     whole : size ≡ 64 * i + 64
     whole = omega (arith, blocks-of-bytes L)
 

@@ -11,10 +11,11 @@ use borrow.Author.Tests.{eq-eqb, ne-eqb, lt-ltb, le-ltb}
 use lib.Dec.{eqb, ltb}
 use lib.ListN.{length, getD, List·getD-eq-default}
 use lib.Pow.{pow-add, shl-shr, shr-shr, field, mod-mod-pow}
-use Rattle.sm3.specs.Message.{bitOfBytes, blockBits, blocks, message}
-use Rattle.sm3.specs.Words.{tab}
-use Rattle.sm3.proofs.Bytes.{bit-of-byte}
-use Rattle.sm3.proofs.Tab.{getD-tab}
+use Rattle.sm3.specs.Message.{blockBits, blocks, message}
+use Rattle.encoding.proofs.Bits.{bit-of-byte}
+use Rattle.encoding.proofs.Tab.{getD-tab}
+use Rattle.encoding.specs.Bits.{bitOfBytes}
+use Rattle.encoding.specs.Sequence.{tab}
 
 pub blocks-of-bytes : (size : ℕ) → blocks (8 * size) ≡ (size + 8) / 64 + 1
 unfolding blocks

@@ -5,9 +5,9 @@ use Prim.Native.Nat.{ℕ}
 use borrow.Author.Needs.{needs}
 use lib.ListN.{getD}
 use Rattle.sm3.specs.Sm3.{rotatedConstant}
-use Rattle.sm3.proofs.Tab.{getD-tab}
 use Rattle.sm3.proofs.constants.rotated_constant.Statement.{statement}
 use Rattle.sm3.proofs.constants.rotated_constant.Tie as tie
+use Rattle.encoding.proofs.Tab.{getD-tab}
 
 rotated-constants-requires : tie.Need-rotated-constants-requires
 rotated-constants-requires c κs = search needs

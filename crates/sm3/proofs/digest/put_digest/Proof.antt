@@ -1,29 +1,33 @@
 -- Each word goes after those before it, so the eight make the buffer's first 32 bytes.
 use mathlib.Core.List.{List, _++_}
-use mathlib.Core.Path.{_≡_, refl}
+use mathlib.Core.Path.{_≡_}
 use Prim.Native.Nat.{ℕ, _+_, _≤_}
 use native.Mathlib.Omega.{arith}
 use borrow.Author.Needs.{needs}
-use lib.ListN.{length}
-use lib.Seq.{sets}
-use Rattle.sm3.specs.Message.{bytesOf, bytesOfWord}
-use Rattle.sm3.proofs.Front.{Front, front-none, front-more}
+use lib.ListN.{length, length-append}
+use Rattle.encoding.proofs.Bytes.{length-highest-first}
+use Rattle.encoding.proofs.Written.{written-front, written-then}
+use Rattle.encoding.specs.Bytes.{highestFirst}
+use Rattle.encoding.specs.Written.{Written}
+use Rattle.sm3.specs.Message.{bytesOf}
 use Rattle.sm3.proofs.digest.put_digest.Statement.{statement}
 use Rattle.sm3.proofs.digest.put_digest.Tie as tie
 
-length-word : (w : ℕ) → length (bytesOfWord w) ≡ 4
-unfolding bytesOfWord
-length-word w = refl
+-- the first n bytes, xs, are written at the front of l
+abbrev Front : ℕ → List ℕ → List ℕ → List ℕ → Type 0
+Front n xs l l′ = (length xs ≡ n) × Written 0 xs l l′
 
--- one word more at the front of `l`
+-- one word more
 word-more :
-    {l : List ℕ} {n : ℕ} {xs l′ : List ℕ}
-    → Front l n xs l′
-    → (w : ℕ) (l″ : List ℕ)
-    → n + 4 ≤ length l
-    → l″ ≡ sets l′ n (bytesOfWord w)
-    → Front l (n + 4) (xs ++ bytesOfWord w) l″
-word-more f w l″ room e = front-more f 4 (bytesOfWord w) l″ (length-word w) room e
+    {n : ℕ} {xs ys l l′ l″ : List ℕ}
+    → length ys ≡ 4
+    → Front n xs l l′
+    → Written n ys l′ l″
+    → Front (n + 4) (xs ++ ys) l l″
+word-more {n} {xs} {ys} four f h = (
+  omega (arith, f .0, length-append xs ys),
+  written-then n (omega (arith, f .0)) (f .1) h,
+)
 
 put-word-requires : tie.Need-put-word-requires
 put-word-requires c κs = search needs
@@ -67,16 +71,16 @@ returns c =
     let s = a .args .s in
     let out = a .args .out .now in
     let room : 32 ≤ length out = a .pre in
-    let f0 = front-none out in
-    let f1 = word-more f0 (s .a) (p1 .put-word .last .0) (omega arith) (p1 .put-word .ensures) in
-    let f2 = word-more f1 (s .b) (p2 .put-word2 .last .0) (omega arith) (p2 .put-word2 .ensures) in
-    let f3 = word-more f2 (s .c) (p3 .put-word3 .last .0) (omega arith) (p3 .put-word3 .ensures) in
-    let f4 = word-more f3 (s .d) (p4 .put-word4 .last .0) (omega arith) (p4 .put-word4 .ensures) in
-    let f5 = word-more f4 (s .e) (p5 .put-word5 .last .0) (omega arith) (p5 .put-word5 .ensures) in
-    let f6 = word-more f5 (s .f) (p6 .put-word6 .last .0) (omega arith) (p6 .put-word6 .ensures) in
-    let f7 = word-more f6 (s .g) (p7 .put-word7 .last .0) (omega arith) (p7 .put-word7 .ensures) in
-    let f8 = word-more f7 (s .h) (p8 .put-word8 .last .0) (omega arith) (p8 .put-word8 .ensures) in
-    f8 .left
+    let f1 : Front 4 (highestFirst 4 (s .a)) out (p1 .put-word .last .0) =
+    (length-highest-first 4 (s .a), p1 .put-word .ensures) in
+    let f2 = word-more (length-highest-first 4 (s .b)) f1 (p2 .put-word2 .ensures) in
+    let f3 = word-more (length-highest-first 4 (s .c)) f2 (p3 .put-word3 .ensures) in
+    let f4 = word-more (length-highest-first 4 (s .d)) f3 (p4 .put-word4 .ensures) in
+    let f5 = word-more (length-highest-first 4 (s .e)) f4 (p5 .put-word5 .ensures) in
+    let f6 = word-more (length-highest-first 4 (s .f)) f5 (p6 .put-word6 .ensures) in
+    let f7 = word-more (length-highest-first 4 (s .g)) f6 (p7 .put-word7 .ensures) in
+    let f8 = word-more (length-highest-first 4 (s .h)) f7 (p8 .put-word8 .ensures) in
+    written-front 32 (f8 .0) room (f8 .1)
 
 pub put-digest-spec : {M : Type 1} → statement M
 put-digest-spec =

@@ -6,13 +6,12 @@ use Prim.Native.Nat.{ℕ, _+_, _-_, _*_, _≤_, _<_}
 use native.Mathlib.Omega.{arith}
 use borrow.Author.Needs.{needs}
 use denote.Ref.{now}
-use Rattle.sm3.specs.Message.{bitOfBytes}
 use Rattle.sm3.specs.Sm3.{blockWord, expansion}
-use Rattle.sm3.specs.Words.{number}
-use Rattle.sm3.proofs.Numbers.{number-cong}
-use Rattle.sm3.proofs.expansion.Laws.{Holds, W, W-block, store-W}
+use Rattle.sm3.proofs.expansion.FirstWords.{Holds, W, W-block, store-W}
 use Rattle.sm3.proofs.expansion.block_words.Statement.{statement}
 use Rattle.sm3.proofs.expansion.block_words.Tie as tie
+use Rattle.encoding.proofs.Bits.{number-cong}
+use Rattle.encoding.specs.Bits.{bitOfBytes, number}
 
 -- the block's bits
 abbrev bits : List ℕ → ℕ → ℕ → ℕ

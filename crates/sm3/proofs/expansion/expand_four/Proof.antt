@@ -3,7 +3,7 @@ use Prim.Native.Nat.{_+_}
 use native.Mathlib.Omega.{arith}
 use borrow.Author.Needs.{needs}
 use lib.ListN.{length-set}
-use Rattle.sm3.proofs.expansion.Laws.{store-expanded}
+use Rattle.sm3.proofs.expansion.FirstWords.{store-expanded}
 use Rattle.sm3.proofs.expansion.expand_four.Statement.{statement}
 use Rattle.sm3.proofs.expansion.expand_four.Tie as tie
 

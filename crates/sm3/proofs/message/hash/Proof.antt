@@ -1,15 +1,15 @@
--- Before block i the state is what the chain of the message's blocks has come to. The bytes and the bits count the same
--- blocks.
+-- Before block i the state is what the message's blocks so far have come to.
 use mathlib.Core.Path.{_≡_, sym, ap, _∙_}
 use Prim.Native.Nat.{_-_, _*_, _≤_}
 use native.Mathlib.Numerals.{add-one}
 use native.Mathlib.Omega.{arith}
 use borrow.Author.Needs.{needs}
 use lib.ListN.{length}
-use Rattle.sm3.specs.Message.{bitOfBytes, blockBits, blocks, chainingValue, digestOf, message}
+use Rattle.sm3.specs.Message.{blockBits, blocks, chainingValue, digestOf, message}
 use Rattle.sm3.specs.Sm3.{block}
 use Rattle.sm3.proofs.message.hash.Statement.{statement}
 use Rattle.sm3.proofs.message.hash.Tie as tie
+use Rattle.encoding.specs.Bits.{bitOfBytes}
 
 abbrev Inv-loop : tie.InvT-loop
 Inv-loop bytes n t v₀ i₀ v i =
@@ -18,11 +18,11 @@ Inv-loop bytes n t v₀ i₀ v i =
 abbrev μ-loop : tie.MeasureT-loop
 μ-loop bytes n t v₀ i₀ v i = n - i
 
-add-n : tie.Need-add-n Inv-loop μ-loop
-add-n c = search needs
+mul-block-count : tie.Need-mul-block-count Inv-loop μ-loop
+mul-block-count c = search needs
 
-add-n-2 : tie.Need-add-n-2 Inv-loop μ-loop
-add-n-2 c = search needs
+block-count-requires : tie.Need-block-count-requires Inv-loop μ-loop
+block-count-requires c κs = search needs
 
 rotated-constants-requires : tie.Need-rotated-constants-requires Inv-loop μ-loop
 rotated-constants-requires c κs = search needs
@@ -48,7 +48,7 @@ loop-again : tie.Need-loop-again Inv-loop μ-loop
 unfolding chainingValue
 loop-again c =
     let l = c .before .before .before .loop in
-    let bytes = c .before .before .before .before .before .before .before .args .bytes .now in
+    let bytes = c .before .before .before .before .before .before .before .before .args .bytes .now in
     let m = message (8 * length bytes) (bitOfBytes bytes) in (
       omega arith,
       c .next-state .ensures
@@ -60,7 +60,7 @@ returns : tie.Need-returns Inv-loop μ-loop
 unfolding digestOf blocks
 returns c =
     let l = c .before .loop in
-    let bytes = c .before .before .before .before .before .args .bytes .now in
+    let bytes = c .before .before .before .before .before .before .args .bytes .now in
     let all : l .i ≡ blocks (8 * length bytes) = omega arith in
     l .inv .1 ∙ ap (chainingValue (message (8 * length bytes) (bitOfBytes bytes))) all
 
@@ -70,8 +70,8 @@ hash-spec =
     (tie.spec
     Inv-loop
     μ-loop
-    add-n
-    add-n-2
+    mul-block-count
+    block-count-requires
     rotated-constants-requires
     start-state-requires
     loop-holds

@@ -4,11 +4,12 @@ use mathlib.Core.Path.{ap, _∙_}
 use native.Mathlib.Nat.{zero-add}
 use native.Mathlib.Omega.{arith}
 use borrow.Author.Needs.{needs}
-use Rattle.sm3.specs.Message.{bitOfBytes, blocks}
-use Rattle.sm3.proofs.expansion.Laws.{expansion-congruent}
+use Rattle.sm3.specs.Message.{blocks}
+use Rattle.sm3.proofs.expansion.FirstWords.{expansion-congruent}
 use Rattle.sm3.proofs.message.Padding.{record-bits}
 use Rattle.sm3.proofs.message.message_words.Statement.{statement}
 use Rattle.sm3.proofs.message.message_words.Tie as tie
+use Rattle.encoding.specs.Bits.{bitOfBytes}
 
 mul-at : tie.Need-mul-at
 unfolding blocks

@@ -6,11 +6,11 @@ use native.Mathlib.Omega.{arith}
 use borrow.Author.Needs.{needs}
 use lib.ListN.{length, set}
 use Rattle.sm3.specs.Message.{blocks}
-use Rattle.sm3.specs.Words.{tab}
 use Rattle.sm3.proofs.message.PaddedBlock.{tail-ended, zeros-ended, not-last, last}
 use Rattle.sm3.proofs.message.Padding.{block-bits}
 use Rattle.sm3.proofs.message.padded.Statement.{statement}
 use Rattle.sm3.proofs.message.padded.Tie as tie
+use Rattle.encoding.specs.Sequence.{tab}
 
 mul-at : tie.Need-mul-at
 unfolding blocks

@@ -6,10 +6,10 @@ use Prim.Native.Nat.{ℕ, _+_, _-_, _≤_}
 use native.Mathlib.Omega.{arith}
 use borrow.Author.Needs.{needs}
 use lib.ListN.{getD, set, List·getD-eq-default}
-use Rattle.sm3.specs.Words.{tab}
-use Rattle.sm3.proofs.Writes.{filled, set-filled, filled-whole}
 use Rattle.sm3.proofs.message.tail.Statement.{statement}
 use Rattle.sm3.proofs.message.tail.Tie as tie
+use Rattle.encoding.proofs.Filling.{filled, filled-whole, set-filled}
+use Rattle.encoding.specs.Sequence.{tab}
 
 abbrev Inv-loop : tie.InvT-loop
 Inv-loop bytes at n b₀ k₀ b k =

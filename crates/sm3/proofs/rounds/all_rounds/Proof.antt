@@ -8,7 +8,7 @@ use borrow.Author.Needs.{needs}
 use lib.ListN.{length, take}
 use Rattle.sm3.specs.Sm3.{expansion, rounds}
 use Rattle.sm3.specs.declared.state.State.{State}
-use Rattle.sm3.proofs.rounds.Laws.{rounds-expansion}
+use Rattle.sm3.proofs.rounds.FirstRounds.{rounds-expansion}
 use Rattle.sm3.proofs.rounds.all_rounds.Statement.{statement}
 use Rattle.sm3.proofs.rounds.all_rounds.Tie as tie
 

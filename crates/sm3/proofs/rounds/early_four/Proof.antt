@@ -1,7 +1,7 @@
 -- The four calls are the four rounds from j on.
 use borrow.Author.Needs.{needs}
 use denote.Ref.{now}
-use Rattle.sm3.proofs.rounds.Laws.{rounds-four}
+use Rattle.sm3.proofs.rounds.FirstRounds.{rounds-four}
 use Rattle.sm3.proofs.rounds.early_four.Statement.{statement}
 use Rattle.sm3.proofs.rounds.early_four.Tie as tie
 

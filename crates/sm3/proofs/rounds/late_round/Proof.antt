@@ -5,7 +5,7 @@ use borrow.Author.Needs.{needs}
 use borrow.Author.Tests.{le-ltb}
 use denote.Ref.{now}
 use Rattle.sm3.specs.Sm3.{FF, GG, pairWord}
-use Rattle.sm3.proofs.rounds.Laws.{table-at}
+use Rattle.sm3.proofs.rounds.FirstRounds.{table-at}
 use Rattle.sm3.proofs.rounds.late_round.Statement.{statement}
 use Rattle.sm3.proofs.rounds.late_round.Tie as tie
 

@@ -7,7 +7,7 @@ use Rattle.sm3.specs.Sm3.{_⊕_, choice}
 use Rattle.sm3.specs.Words.{bit}
 use Rattle.sm3.proofs.Bits.{bit-and, bit-choice, bit-lt, bit-xor}
 use Rattle.sm3.proofs.Bounds.{choice-lt}
-use Rattle.sm3.proofs.Numbers.{word-ext}
+use Rattle.sm3.proofs.WordBits.{word-ext}
 use Rattle.sm3.proofs.words.choice_of.Statement.{statement}
 use Rattle.sm3.proofs.words.choice_of.Tie as tie
 

@@ -11,21 +11,18 @@ use lib.Dec.{lit<, ltb}
 use lib.ListN.{length, getD, set, take, length-set}
 use lib.Seq.{getD-take, take-suc-set}
 use Rattle.sm3.specs.Sm3.{blockWord, expanded, expansion, extended, mixed, nextWord}
-use Rattle.sm3.specs.Words.{tab}
-use Rattle.sm3.proofs.Numbers.{number-cong}
-use Rattle.sm3.proofs.Tab.{getD-tab, length-tab, take-tab}
+use Rattle.encoding.proofs.Bits.{number-cong}
+use Rattle.encoding.proofs.Tab.{getD-tab, take-tab}
+use Rattle.encoding.specs.Sequence.{tab}
 
 -- Wj of a block
 unfoldable pub W : (ℕ → ℕ) → ℕ → ℕ
 W bits j = nextWord bits (expansion bits j) j
 
-pub expansion-tab : (bits : ℕ → ℕ) (n : ℕ) → expansion bits n ≡ tab n (W bits)
+expansion-tab : (bits : ℕ → ℕ) (n : ℕ) → expansion bits n ≡ tab n (W bits)
 unfolding expansion extended tab W
 expansion-tab bits zero = refl
 expansion-tab bits (suc n) = ap (λ (l : List ℕ). l ++ (nextWord bits (expansion bits n) n ∷ [])) (expansion-tab bits n)
-
-pub length-expansion : (bits : ℕ → ℕ) (n : ℕ) → length (expansion bits n) ≡ n
-length-expansion bits n = ap length (expansion-tab bits n) ∙ length-tab n (W bits)
 
 pub take-expansion : (bits : ℕ → ℕ) (m n : ℕ) → m ≤ n → take m (expansion bits n) ≡ expansion bits m
 take-expansion bits m n h =
@@ -43,7 +40,7 @@ module _ (w : List ℕ) (j : ℕ) (h : 16 ≤ j) where
   unfolding mixed
   mixed-take = rw (getD-before 16 (lit< tt), getD-before 9 (lit< tt), getD-before 3 (lit< tt))
 
-  pub expanded-take : expanded (take j w) j ≡ expanded w j
+  expanded-take : expanded (take j w) j ≡ expanded w j
   unfolding expanded
   expanded-take = rw (mixed-take, getD-before 13 (lit< tt), getD-before 6 (lit< tt))
 

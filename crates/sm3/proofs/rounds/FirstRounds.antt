@@ -8,16 +8,16 @@ use native.Mathlib.Omega.{arith}
 use lib.ListN.{getD, take}
 use lib.Seq.{getD-take}
 use Rattle.sm3.specs.Sm3.{expansion, pairWord, roundOf, rounds, rotatedConstant}
-use Rattle.sm3.specs.Words.{tab}
 use Rattle.sm3.specs.declared.state.State.{State}
-use Rattle.sm3.proofs.expansion.Laws.{take-expansion}
-use Rattle.sm3.proofs.Tab.{getD-tab}
+use Rattle.sm3.proofs.expansion.FirstWords.{take-expansion}
+use Rattle.encoding.proofs.Tab.{getD-tab}
+use Rattle.encoding.specs.Sequence.{tab}
 
-pub pairWord-take : (w : List ℕ) (n j : ℕ) → j + 4 < n → pairWord (take n w) j ≡ pairWord w j
+pairWord-take : (w : List ℕ) (n j : ℕ) → j + 4 < n → pairWord (take n w) j ≡ pairWord w j
 unfolding pairWord
 pairWord-take w n j h = rw (getD-take n w j 0 (omega arith), getD-take n w (j + 4) 0 h)
 
-pub rounds-take : (w : List ℕ) (v : State) (n j : ℕ) → j + 4 ≤ n → rounds (take n w) v j ≡ rounds w v j
+rounds-take : (w : List ℕ) (v : State) (n j : ℕ) → j + 4 ≤ n → rounds (take n w) v j ≡ rounds w v j
 unfolding rounds
 rounds-take w v n zero h = refl
 rounds-take w v n (suc j) h =
