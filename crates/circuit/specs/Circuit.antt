@@ -15,7 +15,7 @@ use Rattle.circuit.specs.declared.form.Form.the-variants.{Fixed, Bit, Xo
 use Rattle.circuit.specs.declared.place.Place.{Place}
 use Rattle.circuit.specs.declared.place.Step.{Step}
 use Rattle.circuit.specs.declared.place.Step.the-variants.{Start, Message, Q, P1, W, WPrime, U, Ss2, Ff, Gg, Tt1, Tt2, P0, Result, Digest}
-use Rattle.circuit.specs.declared.wire.WireNumber.{WireNumber}
+use Rattle.refusal.specs.declared.numbers.WireNumber.{WireNumber}
 use Rattle.circuit.specs.declared.wire.WordPosition.{WordPosition}
 use Rattle.sm3.specs.Message.{blocks, message}
 use Rattle.sm3.specs.Sm3.{start, rotatedConstant, wordOf}

@@ -3,11 +3,12 @@
 use mathlib.Core.List.{List}
 use Prim.Native.Nat.{ℕ, _+_, _-_, _*_, _/_, _%_, _^_}
 use lib.ListN.{getD}
-use Rattle.circuit.specs.Sequence.{beside, grid}
+use Rattle.circuit.specs.Wires.{expansionWidth, firstBlock, roundWidth, wiresPerBlock}
 use Rattle.sm3.specs.Message.{blockBits, blocks, chainingValue, digestOf, message}
 use Rattle.sm3.specs.Sm3.{FF, GG, P0, P1, SS2, block, dropped, expansion, mixed, pairWord, rounds, start, sumTT1, sumTT2, sumU, wordOf}
 use Rattle.sm3.specs.Words.{bit}
 use Rattle.sm3.specs.declared.state.State.{State}
+use Rattle.encoding.specs.Sequence.{beside, grid}
 
 -- "A word's wires run from the highest bit": the 32 wires of a word
 unfoldable pub wordWires : ℕ → ℕ → ℕ
@@ -43,19 +44,22 @@ roundWires w j s =
     (beside 34 (sumWires (sumTT2 j (getD w j 0) s))
     (wordWires (P0 (dropped (sumTT2 j (getD w j 0) s)))))))))
 
--- the 22,528 wires of a block with the 512 bits b that begins with the words v: "512 block bits; for each j from 16 to
--- 67 ..; W'0 to W'63; for each round ..; the 8 result words"
+-- the wires of a block that follow from its 512 bits b and from the words v that it begins with: "for each j from 16 to 67
+-- ..; W'0 to W'63; for each round ..; the 8 result words"
+unfoldable pub computedWires : (ℕ → ℕ) → State → ℕ → ℕ
+computedWires b v =
+    beside (52 * expansionWidth) (grid expansionWidth (λ j. expansionWires (expansion b 68) (16 + j)))
+    (beside (64 * 32) (grid 32 (λ j. wordWires (pairWord (expansion b 68) j)))
+    (beside (64 * roundWidth) (grid roundWidth (λ j. roundWires (expansion b 68) j (rounds (expansion b 68) v j)))
+    (stateWires (block b v))))
+
+-- .. and its 22,528 wires: "512 block bits" and those
 unfoldable pub blockWires : (ℕ → ℕ) → State → ℕ → ℕ
-blockWires b v =
-    beside 512 b
-    (beside 4992 (grid 96 (λ j. expansionWires (expansion b 68) (16 + j)))
-    (beside 2048 (grid 32 (λ j. wordWires (pairWord (expansion b 68) j)))
-    (beside 14720 (grid 230 (λ j. roundWires (expansion b 68) j (rounds (expansion b 68) v j)))
-    (stateWires (block b v)))))
+blockWires b v = beside 512 b (computedWires b v)
 
 -- the block wires of a message m, block after block
 unfoldable pub messageWires : (ℕ → ℕ) → ℕ → ℕ
-messageWires m = grid 22528 (λ i. blockWires (blockBits m i) (chainingValue m i))
+messageWires m = grid wiresPerBlock (λ i. blockWires (blockBits m i) (chainingValue m i))
 
 -- "Wire 0 is the constant 1. Wires 1 to 256: digest. 257 to 512: start words. Then 22,528 a block"
 unfoldable pub wireOf : ℕ → (ℕ → ℕ) → ℕ → ℕ
@@ -67,8 +71,8 @@ wireOf n r =
 
 -- "Wires in all: 513 + 22,528 × n", for a record of n bits
 unfoldable pub wireCount : ℕ → ℕ
-wireCount n = 513 + 22528 * blocks n
+wireCount n = firstBlock + wiresPerBlock * blocks n
 
 -- "those before bit 8 × L of the message are the record wires": the wire of record bit k
 unfoldable pub recordWire : ℕ → ℕ
-recordWire k = 513 + 22528 * (k / 512) + k % 512
+recordWire k = firstBlock + wiresPerBlock * (k / 512) + k % 512

@@ -20,11 +20,15 @@ Pairwise R (x ∷ xs) = All (R x) xs × Pairwise R xs
 abbrev pub Rising : List Term → Type 0
 Rising ts = Pairwise (λ t u. t .wire .0 < u .wire .0) ts
 
--- ".., coefficients from 1 to p - 1, zero ones omitted. No row has over 163 terms.": a row of a record of n bits
+-- "No row has over 163 terms."
+abbrev pub mostTerms : ℕ
+mostTerms = 163
+
+-- ".., coefficients from 1 to p - 1, zero ones omitted.": a row of a record of n bits
 pub record Shaped (n : ℕ) (r : Row) : Type 0 where
   pub a : Rising (r .A)
   pub b : Rising (r .B)
   pub c : Rising (r .C)
   pub wires : All (λ t. t .wire .0 < wireCount n) (terms r)
   pub coefficients : All (λ t. (1 ≤ t .coefficient) × (t .coefficient < p)) (terms r)
-  pub few : length (terms r) ≤ 163
+  pub few : length (terms r) ≤ mostTerms

@@ -1,8 +1,8 @@
 -- Where words stand: the number of each word's first wire (document 01, "Wires"). F is the first wire of a block.
 use mathlib.Core.Bool.{cond}
-use Prim.Native.Nat.{ℕ, zero, suc, _+_, _-_, _*_, _%_, _<_}
+use Prim.Native.Nat.{ℕ, zero, suc, _+_, _-_, _*_, _%_}
 use lib.Dec.{ltb}
-use Rattle.circuit.specs.declared.wire.WireNumber.{WireNumber}
+use Rattle.refusal.specs.declared.numbers.WireNumber.{WireNumber}
 use Rattle.circuit.specs.declared.wire.WordPosition.{WordPosition}
 
 -- "Wire 0 is the constant 1"
@@ -20,11 +20,6 @@ standing w = record { first = record { 0 = w }; rotation = 0 }
 abbrev pub rotatedBy : ℕ → WordPosition → WordPosition
 rotatedBy k x = record { first = x .first; rotation = (x .rotation + k) % 32 }
 
--- what the code keeps to, so that no number of a wire overflows
-pub record Within (x : WordPosition) : Type 0 where
-  pub first : x .first .0 < 1000000
-  pub rotation : x .rotation < 32
-
 -- the wire of bit i
 abbrev pub wireAt : WordPosition → ℕ → WireNumber
 wireAt x i = at (x .first) ((i + x .rotation) % 32)
@@ -36,12 +31,34 @@ digestFirst = 1
 abbrev pub startFirst : ℕ
 startFirst = 257
 
-abbrev pub blockFirst : ℕ → ℕ
-blockFirst i = 513 + 22528 * i
+abbrev pub firstBlock : ℕ
+firstBlock = 513
 
--- "512 block bits"; "for each j from 16 to 67: q, P1(q), Wj"
+abbrev pub wiresPerBlock : ℕ
+wiresPerBlock = 22528
+
+abbrev pub blockFirst : ℕ → ℕ
+blockFirst i = firstBlock + wiresPerBlock * i
+
+-- where the parts of a block begin, after its "512 block bits"
+abbrev pub expansionAt : ℕ
+expansionAt = 512
+
+abbrev pub pairsAt : ℕ
+pairsAt = 5504
+
+abbrev pub roundsAt : ℕ
+roundsAt = 7552
+
+abbrev pub resultAt : ℕ
+resultAt = 22272
+
+-- "for each j from 16 to 67: q, P1(q), Wj"
+abbrev pub expansionWidth : ℕ
+expansionWidth = 96
+
 abbrev pub qFirst : ℕ → ℕ → ℕ
-qFirst F j = F + 512 + 96 * (j - 16)
+qFirst F j = F + expansionAt + expansionWidth * (j - 16)
 
 abbrev pub p1First : ℕ → ℕ → ℕ
 p1First F j = qFirst F j + 32
@@ -51,33 +68,54 @@ wFirst F j = cond (ltb j 16) (F + 32 * j) (qFirst F j + 64)
 
 -- "W'0 to W'63"
 abbrev pub wPrimeFirst : ℕ → ℕ → ℕ
-wPrimeFirst F j = F + 5504 + 32 * j
+wPrimeFirst F j = F + pairsAt + 32 * j
 
--- "for each round: u and its 2 carries, SS2, FF, GG, TT1 and 2 carries, TT2 and 2 carries, P0(TT2)"
+-- "for each round: u and its 2 carries, SS2, FF, GG, TT1 and 2 carries, TT2 and 2 carries, P0(TT2)": where each begins
+abbrev pub roundWidth : ℕ
+roundWidth = 230
+
+abbrev pub ss2At : ℕ
+ss2At = 34
+
+abbrev pub ffAt : ℕ
+ffAt = 66
+
+abbrev pub ggAt : ℕ
+ggAt = 98
+
+abbrev pub tt1At : ℕ
+tt1At = 130
+
+abbrev pub tt2At : ℕ
+tt2At = 164
+
+abbrev pub p0At : ℕ
+p0At = 198
+
 abbrev pub uFirst : ℕ → ℕ → ℕ
-uFirst F j = F + 7552 + 230 * j
+uFirst F j = F + roundsAt + roundWidth * j
 
 abbrev pub ss2First : ℕ → ℕ → ℕ
-ss2First F j = uFirst F j + 34
+ss2First F j = uFirst F j + ss2At
 
 abbrev pub ffFirst : ℕ → ℕ → ℕ
-ffFirst F j = uFirst F j + 66
+ffFirst F j = uFirst F j + ffAt
 
 abbrev pub ggFirst : ℕ → ℕ → ℕ
-ggFirst F j = uFirst F j + 98
+ggFirst F j = uFirst F j + ggAt
 
 abbrev pub tt1First : ℕ → ℕ → ℕ
-tt1First F j = uFirst F j + 130
+tt1First F j = uFirst F j + tt1At
 
 abbrev pub tt2First : ℕ → ℕ → ℕ
-tt2First F j = uFirst F j + 164
+tt2First F j = uFirst F j + tt2At
 
 abbrev pub p0First : ℕ → ℕ → ℕ
-p0First F j = uFirst F j + 198
+p0First F j = uFirst F j + p0At
 
 -- "the 8 result words"
 abbrev pub resultFirst : ℕ → ℕ → ℕ
-resultFirst F k = F + 22272 + 32 * k
+resultFirst F k = F + resultAt + 32 * k
 
 -- Where A to H stand.
 pub record StatePosition : Type 0 where
@@ -123,7 +161,3 @@ moved F j s =
 unfoldable pub stands : ℕ → StatePosition → ℕ → StatePosition
 stands F v zero = v
 stands F v (suc j) = moved F j (stands F v j)
-
--- .. where these are the 256 wires before the block's first, as they are for every block of a record
-abbrev pub standsBefore : ℕ → ℕ → StatePosition
-standsBefore F j = stands F (eightFrom (F - 256)) j

@@ -1,6 +1,6 @@
 // The row forms, which name the wires of a row, and the terms of a row.
-use crate::wire::WireNumber;
 use crate::wire::WordPosition;
+use refusal::numbers::WireNumber;
 
 // A wire and its coefficient.
 pub struct Term {

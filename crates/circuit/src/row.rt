@@ -6,9 +6,9 @@ ghost use Rattle.circuit.specs.Circuit.{formOf, rowAt};
 ghost use Rattle.circuit.specs.Places.{place, rowCount};
 ghost use Rattle.circuit.specs.Ranges.{InRecord};
 ghost use Rattle.circuit.specs.RowAnswer.{rowAnswer, rowLeft};
-ghost use Rattle.circuit.specs.Terms.{Filled, unsorted};
+ghost use Rattle.circuit.specs.Terms.{Filled, termRoom, unsorted};
+ghost use Rattle.sm3.specs.Message.{mostBits};
 use crate::place::Place;
-use crate::place::RowNumber;
 use crate::place::Step;
 use crate::place::place_of;
 use crate::place::row_count;
@@ -16,18 +16,21 @@ use crate::sort::sort_run;
 use crate::step_form::form_of;
 use crate::term_bytes::put_terms;
 use crate::terms::Counts;
+use crate::terms::TERM_ROOM;
 use crate::terms::fill;
+use refusal::numbers::RowNumber;
+use refusal::outcome::Refusal;
+use sm3::message::LONGEST;
+
+// The bytes that every row has room in: 12 for each of 163 terms.
+pub const ROW_BYTES: usize = 1956;
 
 // The answer of `row`.
 pub enum RowAnswer {
     // The terms are written; how many belong to A, to B and to C.
     Given { a: u64, b: u64, c: u64 },
-    // Refusal 2: the record length is above 1,015.
-    LengthAboveLimit,
-    // Refusal 3: the row number is not below the row count.
-    RowOutOfRange,
-    // Refusal 4: the buffer is shorter than 1,956 bytes.
-    BufferTooShort,
+    // Refusal 2, 3 or 4.
+    Refused(Refusal),
 }
 
 // The terms of the row at a place, in the order of the equation. The place comes in its parts, which pass in registers.
@@ -39,7 +42,7 @@ pub fn place_terms(
     line: u64,
     terms: &mut [u64],
 ) -> Counts
-    requires { ⌜ (bits ≤ 8127) × InRecord bits (place step block index line) × (326 ≤ length (now terms)) ⌝ }
+    requires { ⌜ (bits ≤ mostBits) × InRecord bits (place step block index line) × (termRoom ≤ length (now terms)) ⌝ }
     ensures { λ r. ⌜ Filled (unsorted (formOf bits block step index line)) r (now (terms .entry)) (now (terms .exit)) ⌝ }
 {
     let form = form_of(
@@ -56,7 +59,7 @@ pub fn place_terms(
 
 // The terms of a row of a record of so many bits, each part by rising wire.
 pub fn row_terms(bits: u64, row: RowNumber, terms: &mut [u64]) -> Counts
-    requires { ⌜ (bits ≤ 8127) × (row .0 < rowCount bits) × (326 ≤ length (now terms)) ⌝ }
+    requires { ⌜ (bits ≤ mostBits) × (row .0 < rowCount bits) × (termRoom ≤ length (now terms)) ⌝ }
     ensures { λ r. ⌜ Filled (rowAt bits (row .0)) r (now (terms .entry)) (now (terms .exit)) ⌝ }
 {
     let p = place_of(bits, row);
@@ -71,24 +74,25 @@ pub fn row_terms(bits: u64, row: RowNumber, terms: &mut [u64]) -> Counts
     counts
 }
 
-// The row of a number for a record of `length` bytes, into the front of `out`: the terms of A, then B, then C.
-pub fn row(length: u64, row: u64, out: &mut [u8]) -> RowAnswer
-    ensures { λ r. ⌜ r ≡ rowAnswer length row (lib.ListN.length (now (out .entry))) ⌝ }
-    ensures { λ r. ⌜ now (out .exit) ≡ rowLeft r length row (now (out .entry)) ⌝ }
+// The row of a number for a record of `size` bytes, into the front of `out`: the terms of A, then B, then C.
+pub fn row(size: u64, row: RowNumber, out: &mut [u8]) -> RowAnswer
+    ensures { λ r. ⌜ r ≡ rowAnswer size (row .0) (length (now (out .entry))) ⌝ }
+    ensures { λ r. ⌜ now (out .exit) ≡ rowLeft r size (row .0) (now (out .entry)) ⌝ }
 {
-    if 1015 < length {
-        return RowAnswer::LengthAboveLimit;
+    if LONGEST < size {
+        return RowAnswer::Refused(Refusal::LengthAboveLimit);
     }
-    let bits = 8 * length;
+    let bits = 8 * size;
     let count = row_count(bits);
-    if count <= row {
-        return RowAnswer::RowOutOfRange;
+    let k = row.0;
+    if count <= k {
+        return RowAnswer::Refused(Refusal::RowOutOfRange);
     }
-    if out.len() < 1956 {
-        return RowAnswer::BufferTooShort;
+    if out.len() < ROW_BYTES {
+        return RowAnswer::Refused(Refusal::BufferTooShort);
     }
-    let mut terms = [0u64; 326];
-    let counts = row_terms(bits, RowNumber(row), &mut terms);
+    let mut terms = [0u64; TERM_ROOM];
+    let counts = row_terms(bits, row, &mut terms);
     put_terms(&terms, counts.a + counts.b + counts.c, out);
     RowAnswer::Given {
         a: counts.a as u64,

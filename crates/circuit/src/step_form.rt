@@ -4,22 +4,26 @@ ghost use Prim.Native.Nat.{_≤_};
 ghost use Rattle.circuit.specs.Circuit.{formOf};
 ghost use Rattle.circuit.specs.Ranges.{InRecord};
 ghost use Rattle.circuit.specs.Terms.{Fit};
+ghost use Rattle.sm3.specs.Message.{mostBits};
 
-pub mod ends;
 pub mod expansion;
+pub mod frame;
+pub mod message;
+pub mod result;
 pub mod round;
 
 use crate::form::Form;
 use crate::place::Place;
 use crate::place::Step;
-use ends::digest_form;
-use ends::message_form;
-use ends::result_form;
-use ends::start_form;
+use crate::wire::block_first;
 use expansion::p1_form;
 use expansion::q_form;
 use expansion::w_form;
 use expansion::w_prime_form;
+use frame::digest_form;
+use frame::start_form;
+use message::message_form;
+use result::result_form;
 use round::ff_form;
 use round::gg_form;
 use round::p0_form;
@@ -30,13 +34,13 @@ use round::u_form;
 
 // The form of the row at a place, for a record of so many bits.
 pub fn form_of(bits: u64, place: Place) -> Form
-    requires { ⌜ (bits ≤ 8127) × InRecord bits place ⌝ }
+    requires { ⌜ (bits ≤ mostBits) × InRecord bits place ⌝ }
     ensures { λ f. ⌜ (f ≡ formOf bits (place .block) (place .step) (place .index) (place .line)) × Fit f ⌝ }
 {
     let i = place.block;
     let j = place.index;
     let l = place.line;
-    let first = 513 + 22528 * i;
+    let first = block_first(i);
     let step = place.step;
     match step {
         Step::Start => start_form(j, l),

@@ -2,30 +2,19 @@
 ghost use mathlib.Core.List.{List, _++_};
 ghost use mathlib.Core.Path.{_≡_};
 ghost use Prim.Native.Nat.{ℕ, _+_, _*_, _≤_};
-ghost use lib.ListN.{drop, length};
-ghost use lib.Seq.{sets};
-ghost use Rattle.circuit.specs.RowAnswer.{leastFirst, termBytes, termsBytes};
+ghost use lib.ListN.{length};
+ghost use Rattle.circuit.specs.RowAnswer.{termBytes, termsBytes};
 ghost use Rattle.circuit.specs.Terms.{flat};
 ghost use Rattle.circuit.specs.declared.form.Term.{Term};
+ghost use Rattle.encoding.specs.Written.{Written};
 use crate::form::Term;
-use crate::wire::WireNumber;
-
-// Writes the n lowest bytes of x from `at` on, the least first.
-fn put_number(out: &mut [u8], at: usize, n: usize, x: u64)
-    requires { ⌜ at + n ≤ length (now out) ⌝ }
-    ensures { λ _. ⌜ now (out .exit) ≡ sets (now (out .entry)) at (leastFirst n x) ⌝ }
-{
-    let mut left = x;
-    for i in 0..n {
-        out[at + i] = (left % 256) as u8;
-        left = left / 256;
-    }
-}
+use encoding::write::put_number;
+use refusal::numbers::WireNumber;
 
 // Writes the 12 bytes of a term from `at` on.
 fn put_term(out: &mut [u8], at: usize, term: Term)
     requires { ⌜ at + 12 ≤ length (now out) ⌝ }
-    ensures { λ _. ⌜ now (out .exit) ≡ sets (now (out .entry)) at (termBytes term) ⌝ }
+    ensures { λ _. ⌜ Written at (termBytes term) (now (out .entry)) (now (out .exit)) ⌝ }
 {
     let wire = term.wire;
     put_number(out, at, 4, wire.0);
@@ -35,7 +24,7 @@ fn put_term(out: &mut [u8], at: usize, term: Term)
 // Writes the first n terms to the front of `out`.
 pub fn put_terms(terms: &[u64], n: usize, out: &mut [u8])
     requires { ⌜ (2 * n ≤ length (now terms)) × (12 * n ≤ length (now out)) ⌝ }
-    ensures { λ _. ⌜ ((ts : List Term) (rest : List ℕ) → length ts ≡ n → now (terms .entry) ≡ flat ts ++ rest → now (out .exit) ≡ termsBytes ts ++ drop (12 * n) (now (out .entry))) ⌝ }
+    ensures { λ _. ⌜ ((ts : List Term) (rest : List ℕ) → length ts ≡ n → now (terms .entry) ≡ flat ts ++ rest → Written 0 (termsBytes ts) (now (out .entry)) (now (out .exit))) ⌝ }
 {
     for i in 0..n {
         put_term(

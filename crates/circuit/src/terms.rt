@@ -1,21 +1,33 @@
 // The terms of a row form, in a lent buffer of numbers: wire, coefficient, wire, coefficient, ..
-ghost use mathlib.Core.Bool.{cond};
 ghost use mathlib.Core.List.{[], _∷_, _++_};
 ghost use mathlib.Core.Path.{_≡_};
 ghost use Prim.Native.Nat.{ℕ, _+_, _-_, _*_, _<_, _≤_, _^_};
 ghost use lib.ListN.{length};
 ghost use Rattle.circuit.specs.Rows.{_·_, addendTerms, less, nonzero, taken, weighted};
-ghost use Rattle.circuit.specs.Terms.{Appended, Few, Filled, Fit, unsorted};
-ghost use Rattle.circuit.specs.Wires.{Within, at, one};
+ghost use Rattle.circuit.specs.Shape.{mostTerms};
+ghost use Rattle.circuit.specs.Terms.{Filled, Fit, flat, termCount, termRoom, unsorted};
+ghost use Rattle.circuit.specs.Wires.{at, one};
+ghost use Rattle.circuit.specs.Bounds.{Within};
 ghost use Rattle.circuit.specs.declared.form.Form.the-variants.{Bit, Choice, Equal, Fixed, Majority, Sum, XorOfThree, XorOfTwo};
-ghost use Rattle.sm3.specs.Words.{tab};
+ghost use Rattle.encoding.specs.Sequence.{tab};
+ghost use Rattle.encoding.specs.Written.{Written};
 use crate::form::Addends;
 use crate::form::Form;
-use crate::wire::WireNumber;
 use crate::wire::WordPosition;
 use crate::wire::wire_of_bit;
 use crate::wire::wire_past;
 use field::P;
+use refusal::numbers::WireNumber;
+
+// The numbers that hold any row's terms, two for each of 163.
+pub const TERM_ROOM: usize = 326;
+
+// The weight of a word's highest bit, 2^31, and those of the carries, 2^33 and then 2^32.
+const HIGHEST_WEIGHT: u64 = 2147483648;
+
+const HIGH_CARRY: u64 = 8589934592;
+
+const LOW_CARRY: u64 = 4294967296;
 
 // How many terms A, B and C have.
 pub struct Counts {
@@ -27,7 +39,7 @@ pub struct Counts {
 // Writes a term behind the first n: a wire and its coefficient.
 fn push(terms: &mut [u64], n: usize, wire: WireNumber, coefficient: u64)
     requires { ⌜ 2 * n + 2 ≤ length (now terms) ⌝ }
-    ensures { λ _. ⌜ Appended n (coefficient · wire ∷ []) (now (terms .entry)) (now (terms .exit)) ⌝ }
+    ensures { λ _. ⌜ Written (2 * n) (flat (coefficient · wire ∷ [])) (now (terms .entry)) (now (terms .exit)) ⌝ }
 {
     terms[2 * n] = wire.0;
     terms[2 * n + 1] = coefficient;
@@ -36,7 +48,7 @@ fn push(terms: &mut [u64], n: usize, wire: WireNumber, coefficient: u64)
 // Writes k times wire 0 behind the first n terms, unless k is 0; how many terms that is.
 fn push_constant(terms: &mut [u64], n: usize, k: u64) -> usize
     requires { ⌜ 2 * n + 2 ≤ length (now terms) ⌝ }
-    ensures { λ r. ⌜ (r ≤ 1) × (r ≡ length (nonzero (k · one ∷ []))) × Appended n (nonzero (k · one ∷ [])) (now (terms .entry)) (now (terms .exit)) ⌝ }
+    ensures { λ r. ⌜ (r ≤ 1) × (r ≡ length (nonzero (k · one ∷ []))) × Written (2 * n) (flat (nonzero (k · one ∷ []))) (now (terms .entry)) (now (terms .exit)) ⌝ }
 {
     if k == 0 {
         return 0;
@@ -48,7 +60,7 @@ fn push_constant(terms: &mut [u64], n: usize, k: u64) -> usize
 // Writes three wires with one coefficient behind the first n terms.
 fn push_three(terms: &mut [u64], n: usize, x: WireNumber, y: WireNumber, z: WireNumber, k: u64)
     requires { ⌜ 2 * n + 6 ≤ length (now terms) ⌝ }
-    ensures { λ _. ⌜ Appended n (k · x ∷ k · y ∷ k · z ∷ []) (now (terms .entry)) (now (terms .exit)) ⌝ }
+    ensures { λ _. ⌜ Written (2 * n) (flat (k · x ∷ k · y ∷ k · z ∷ [])) (now (terms .entry)) (now (terms .exit)) ⌝ }
 {
     push(terms, n, x, k);
     push(terms, n + 1, y, k);
@@ -58,9 +70,9 @@ fn push_three(terms: &mut [u64], n: usize, x: WireNumber, y: WireNumber, z: Wire
 // Writes a word's wires with their weights behind the first n terms.
 fn push_word(terms: &mut [u64], n: usize, x: WordPosition)
     requires { ⌜ (2 * n + 64 ≤ length (now terms)) × Within x ⌝ }
-    ensures { λ _. ⌜ Appended n (weighted x) (now (terms .entry)) (now (terms .exit)) ⌝ }
+    ensures { λ _. ⌜ Written (2 * n) (flat (weighted x)) (now (terms .entry)) (now (terms .exit)) ⌝ }
 {
-    let mut weight: u64 = 2147483648;
+    let mut weight = HIGHEST_WEIGHT;
     for i in 0..32 {
         push(terms, n + i as usize, wire_of_bit(x, i), weight);
         weight = weight / 2;
@@ -70,9 +82,9 @@ fn push_word(terms: &mut [u64], n: usize, x: WordPosition)
 // Takes off the 32 wires of a result from r on, with their weights, behind the first n terms.
 fn push_result(terms: &mut [u64], n: usize, r: WireNumber)
     requires { ⌜ (2 * n + 64 ≤ length (now terms)) × (r .0 < 1000000) ⌝ }
-    ensures { λ _. ⌜ Appended n (tab 32 (λ (i : ℕ). less (2 ^ (31 - i)) · at r i)) (now (terms .entry)) (now (terms .exit)) ⌝ }
+    ensures { λ _. ⌜ Written (2 * n) (flat (tab 32 (λ (i : ℕ). less (2 ^ (31 - i)) · at r i))) (now (terms .entry)) (now (terms .exit)) ⌝ }
 {
-    let mut weight: u64 = 2147483648;
+    let mut weight = HIGHEST_WEIGHT;
     for i in 0..32 {
         push(terms, n + i as usize, wire_past(r, i), P - weight);
         weight = weight / 2;
@@ -82,17 +94,17 @@ fn push_result(terms: &mut [u64], n: usize, r: WireNumber)
 // Takes off a result and its carries, which weigh 2^33 and 2^32, behind the first n terms.
 fn push_taken(terms: &mut [u64], n: usize, r: WireNumber)
     requires { ⌜ (2 * n + 68 ≤ length (now terms)) × (r .0 < 1000000) ⌝ }
-    ensures { λ _. ⌜ Appended n (taken r) (now (terms .entry)) (now (terms .exit)) ⌝ }
+    ensures { λ _. ⌜ Written (2 * n) (flat (taken r)) (now (terms .entry)) (now (terms .exit)) ⌝ }
 {
     push_result(terms, n, r);
-    push(terms, n + 32, wire_past(r, 32), P - 8589934592);
-    push(terms, n + 33, wire_past(r, 33), P - 4294967296);
+    push(terms, n + 32, wire_past(r, 32), P - HIGH_CARRY);
+    push(terms, n + 33, wire_past(r, 33), P - LOW_CARRY);
 }
 
 // Writes the words that are added up; how many terms that is.
 fn push_addends(terms: &mut [u64], s: Addends) -> usize
     requires { ⌜ (256 ≤ length (now terms)) × Within (s .x) × Within (s .y) × Within (s .z) × Within (s .t) ⌝ }
-    ensures { λ r. ⌜ (r ≤ 128) × (r ≡ length (addendTerms s)) × Appended 0 (addendTerms s) (now (terms .entry)) (now (terms .exit)) ⌝ }
+    ensures { λ r. ⌜ (r ≤ 128) × (r ≡ length (addendTerms s)) × Written 0 (flat (addendTerms s)) (now (terms .entry)) (now (terms .exit)) ⌝ }
 {
     let x = s.x;
     push_word(terms, 0, x);
@@ -109,10 +121,10 @@ fn push_addends(terms: &mut [u64], s: Addends) -> usize
     64
 }
 
-// Writes the words that are added up and the constant, which four words do not have; how many terms that is.
+// Writes the words that are added up and the constant; how many terms that is.
 fn push_summands(terms: &mut [u64], s: Addends, constant: u64) -> usize
-    requires { ⌜ (326 ≤ length (now terms)) × Within (s .x) × Within (s .y) × Within (s .z) × Within (s .t) × (cond (s .four) constant 0 ≡ 0) ⌝ }
-    ensures { λ r. ⌜ (r ≤ 128) × (r ≡ length (addendTerms s ++ nonzero (constant · one ∷ []))) × Appended 0 (addendTerms s ++ nonzero (constant · one ∷ [])) (now (terms .entry)) (now (terms .exit)) ⌝ }
+    requires { ⌜ (termRoom ≤ length (now terms)) × Within (s .x) × Within (s .y) × Within (s .z) × Within (s .t) ⌝ }
+    ensures { λ r. ⌜ (r ≤ 129) × (r ≡ length (addendTerms s ++ nonzero (constant · one ∷ []))) × Written 0 (flat (addendTerms s ++ nonzero (constant · one ∷ []))) (now (terms .entry)) (now (terms .exit)) ⌝ }
 {
     let n = push_addends(terms, s);
     n + push_constant(terms, n, constant)
@@ -120,7 +132,7 @@ fn push_summands(terms: &mut [u64], s: Addends, constant: u64) -> usize
 
 // w × 1 = bit
 fn fill_fixed(terms: &mut [u64], w: WireNumber, bit: u64) -> Counts
-    requires { ⌜ 326 ≤ length (now terms) ⌝ }
+    requires { ⌜ termRoom ≤ length (now terms) ⌝ }
     ensures { λ r. ⌜ Filled (unsorted (Fixed w bit)) r (now (terms .entry)) (now (terms .exit)) ⌝ }
 {
     push(terms, 0, w, 1);
@@ -131,7 +143,7 @@ fn fill_fixed(terms: &mut [u64], w: WireNumber, bit: u64) -> Counts
 
 // w × (w - 1) = 0
 fn fill_bit(terms: &mut [u64], w: WireNumber) -> Counts
-    requires { ⌜ 326 ≤ length (now terms) ⌝ }
+    requires { ⌜ termRoom ≤ length (now terms) ⌝ }
     ensures { λ r. ⌜ Filled (unsorted (Bit w)) r (now (terms .entry)) (now (terms .exit)) ⌝ }
 {
     push(terms, 0, w, 1);
@@ -142,7 +154,7 @@ fn fill_bit(terms: &mut [u64], w: WireNumber) -> Counts
 
 // 2x × y = x + y - r
 fn fill_xor_of_two(terms: &mut [u64], x: WireNumber, y: WireNumber, r: WireNumber) -> Counts
-    requires { ⌜ 326 ≤ length (now terms) ⌝ }
+    requires { ⌜ termRoom ≤ length (now terms) ⌝ }
     ensures { λ counts. ⌜ Filled (unsorted (XorOfTwo x y r)) counts (now (terms .entry)) (now (terms .exit)) ⌝ }
 {
     push(terms, 0, x, 2);
@@ -161,7 +173,7 @@ fn fill_xor_of_three(
     z: WireNumber,
     r: WireNumber,
 ) -> Counts
-    requires { ⌜ 326 ≤ length (now terms) ⌝ }
+    requires { ⌜ termRoom ≤ length (now terms) ⌝ }
     ensures { λ counts. ⌜ Filled (unsorted (XorOfThree x y z r)) counts (now (terms .entry)) (now (terms .exit)) ⌝ }
 {
     push_three(terms, 0, x, y, z, 1);
@@ -180,7 +192,7 @@ fn fill_majority(
     z: WireNumber,
     r: WireNumber,
 ) -> Counts
-    requires { ⌜ 326 ≤ length (now terms) ⌝ }
+    requires { ⌜ termRoom ≤ length (now terms) ⌝ }
     ensures { λ counts. ⌜ Filled (unsorted (Majority x y z r)) counts (now (terms .entry)) (now (terms .exit)) ⌝ }
 {
     push_three(terms, 0, x, y, z, 1);
@@ -199,7 +211,7 @@ fn fill_choice(
     z: WireNumber,
     r: WireNumber,
 ) -> Counts
-    requires { ⌜ 326 ≤ length (now terms) ⌝ }
+    requires { ⌜ termRoom ≤ length (now terms) ⌝ }
     ensures { λ counts. ⌜ Filled (unsorted (Choice x y z r)) counts (now (terms .entry)) (now (terms .exit)) ⌝ }
 {
     push(terms, 0, x, 1);
@@ -212,7 +224,7 @@ fn fill_choice(
 
 // (addends + constant - result - carries) × 1 = 0
 fn fill_sum(terms: &mut [u64], addends: Addends, constant: u64, r: WireNumber) -> Counts
-    requires { ⌜ (326 ≤ length (now terms)) × Fit (Sum addends constant r) × Few (Sum addends constant r) ⌝ }
+    requires { ⌜ (termRoom ≤ length (now terms)) × Fit (Sum addends constant r) × (termCount (Sum addends constant r) ≤ mostTerms) ⌝ }
     ensures { λ counts. ⌜ Filled (unsorted (Sum addends constant r)) counts (now (terms .entry)) (now (terms .exit)) ⌝ }
 {
     let n = push_summands(terms, addends, constant);
@@ -227,7 +239,7 @@ fn fill_sum(terms: &mut [u64], addends: Addends, constant: u64, r: WireNumber) -
 
 // (x - y) × 1 = 0
 fn fill_equal(terms: &mut [u64], x: WireNumber, y: WireNumber) -> Counts
-    requires { ⌜ 326 ≤ length (now terms) ⌝ }
+    requires { ⌜ termRoom ≤ length (now terms) ⌝ }
     ensures { λ r. ⌜ Filled (unsorted (Equal x y)) r (now (terms .entry)) (now (terms .exit)) ⌝ }
 {
     push(terms, 0, x, 1);
@@ -238,7 +250,7 @@ fn fill_equal(terms: &mut [u64], x: WireNumber, y: WireNumber) -> Counts
 
 // The terms of a form: those of A, then B, then C, each in the order of the equation, without zero ones.
 pub fn fill(form: Form, terms: &mut [u64]) -> Counts
-    requires { ⌜ (326 ≤ length (now terms)) × Fit form × Few form ⌝ }
+    requires { ⌜ (termRoom ≤ length (now terms)) × Fit form × (termCount form ≤ mostTerms) ⌝ }
     ensures { λ r. ⌜ Filled (unsorted form) r (now (terms .entry)) (now (terms .exit)) ⌝ }
 {
     match form {

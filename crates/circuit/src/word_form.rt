@@ -1,18 +1,19 @@
 // The forms of the rows that make a word: line l of the rows whose result stands at r.
 ghost use mathlib.Core.Bool.{cond};
 ghost use mathlib.Core.Path.{_≡_};
-ghost use Prim.Native.Nat.{_<_};
+ghost use Prim.Native.Nat.{ℕ, _<_};
+ghost use Rattle.circuit.specs.Bounds.{Small, Within};
 ghost use Rattle.circuit.specs.Circuit.{choiceOf, paired, summed, xorOfTwo};
 ghost use Rattle.circuit.specs.Terms.{Fit};
-ghost use Rattle.circuit.specs.Wires.{Within, standing, rotatedBy};
-ghost use Rattle.circuit.specs.declared.form.Form.the-variants.{Majority, Sum, XorOfThree};
-use crate::form::Addends;
+ghost use Rattle.circuit.specs.Wires.{rotatedBy, standing};
+ghost use Rattle.circuit.specs.declared.form.Addends.{Addends};
+ghost use Rattle.circuit.specs.declared.form.Form.the-variants.{Majority, XorOfThree};
 use crate::form::Form;
-use crate::wire::WireNumber;
 use crate::wire::WordPosition;
 use crate::wire::rotated;
 use crate::wire::wire_of_bit;
 use crate::wire::word_from;
+use refusal::numbers::WireNumber;
 
 // r is x xor y.
 pub fn xor_of_two(x: WordPosition, y: WordPosition, r: WordPosition, l: u64) -> Form
@@ -75,27 +76,23 @@ pub fn pair(
     }
 }
 
-// The 32 wires from r on and the two carries after them are the sum of the addends and a constant.
-pub fn sum(addends: Addends, constant: u64, r: u64, l: u64) -> Form
-    requires { ⌜ Fit (Sum addends constant (record { 0 = r })) × (l < 35) ⌝ }
-    ensures { λ f. ⌜ (f ≡ summed addends constant r l) × Fit f ⌝ }
+// How many wires a sum has: its word and then 2 carries. Each has its bit row, and then comes the equation.
+pub const SUM_WIRES: u64 = 34;
+
+// A bit row of the sum whose wires begin at r. It is the same whatever is added up.
+pub fn sum_bit(r: WireNumber, l: u64) -> Form
+    requires { ⌜ Small (r .0) × (l < 34) ⌝ }
+    ensures { λ f. ⌜ ((s : Addends) (constant : ℕ) → f ≡ summed s constant (r .0) l) × Fit f ⌝ }
 {
-    if l < 34 {
-        return Form::Bit {
-            w: WireNumber(r + l),
-        };
-    }
-    Form::Sum {
-        addends,
-        constant,
-        r: WireNumber(r),
+    Form::Bit {
+        w: WireNumber(r.0 + l),
     }
 }
 
 // The word from `to` on is X xor X<<<near xor X<<<far, of the word X from `from` on.
-pub fn permuted(from: u64, near: u64, far: u64, to: u64, l: u64) -> Form
-    requires { ⌜ (from < 1000000) × (near < 32) × (far < 32) × (to < 1000000) × (l < 64) ⌝ }
-    ensures { λ f. ⌜ (f ≡ paired XorOfThree (standing from) (rotatedBy near (standing from)) (rotatedBy far (standing from)) (standing to) l) × Fit f ⌝ }
+pub fn permuted(from: WireNumber, near: u64, far: u64, to: WireNumber, l: u64) -> Form
+    requires { ⌜ Small (from .0) × (near < 32) × (far < 32) × Small (to .0) × (l < 64) ⌝ }
+    ensures { λ f. ⌜ (f ≡ paired XorOfThree (standing (from .0)) (rotatedBy near (standing (from .0))) (rotatedBy far (standing (from .0))) (standing (to .0)) l) × Fit f ⌝ }
 {
     let x = word_from(from);
     let y = rotated(near, x);

@@ -1,16 +1,16 @@
 -- The code's tests choose as the definition's do.
 use borrow.Author.Needs.{needs}
 use borrow.Author.Tests.{le-ltb, lt-ltb}
-use Rattle.circuit.specs.Places.{blockPlaces}
-use Rattle.circuit.specs.Sequence.{beside, grid}
+use Rattle.circuit.specs.Places.{blockLayout}
 use Rattle.circuit.proofs.place.block_place.Statement.{statement}
 use Rattle.circuit.proofs.place.block_place.Tie as tie
+use Rattle.encoding.specs.Sequence.{beside, grid}
 
 step-place-requires : tie.Need-step-place-requires
 step-place-requires c κs = search needs
 
 returns : tie.Need-returns
-unfolding beside blockPlaces grid
+unfolding beside blockLayout grid
 returns c = search (le-ltb, lt-ltb) depth 12
 
 add-expansion-place : tie.Need-add-expansion-place
@@ -20,39 +20,29 @@ expansion-place-requires : tie.Need-expansion-place-requires
 expansion-place-requires c κs = search needs
 
 returns-2 : tie.Need-returns-2
-unfolding beside blockPlaces grid
+unfolding beside blockLayout grid
 returns-2 c = search (le-ltb, lt-ltb) depth 12
 
 step-place-requires-2 : tie.Need-step-place-requires-2
 step-place-requires-2 c κs = search needs
 
 returns-3 : tie.Need-returns-3
-unfolding beside blockPlaces grid
+unfolding beside blockLayout grid
 returns-3 c = search (le-ltb, lt-ltb) depth 12
 
-round-place-requires : tie.Need-round-place-requires
-round-place-requires c κs = search needs
+rounds-place-requires : tie.Need-rounds-place-requires
+rounds-place-requires c κs = search needs
 
 returns-4 : tie.Need-returns-4
-unfolding beside blockPlaces grid
+unfolding beside blockLayout grid
 returns-4 c = search (le-ltb, lt-ltb) depth 12
-
-add-round-place : tie.Need-add-round-place
-add-round-place c = search needs
-
-round-place-requires-2 : tie.Need-round-place-requires-2
-round-place-requires-2 c κs = search needs
-
-returns-5 : tie.Need-returns-5
-unfolding beside blockPlaces grid
-returns-5 c = search (le-ltb, lt-ltb) depth 12
 
 step-place-requires-3 : tie.Need-step-place-requires-3
 step-place-requires-3 c κs = search needs
 
-returns-6 : tie.Need-returns-6
-unfolding beside blockPlaces grid
-returns-6 c = search (le-ltb, lt-ltb) depth 12
+returns-5 : tie.Need-returns-5
+unfolding beside blockLayout grid
+returns-5 c = search (le-ltb, lt-ltb) depth 12
 
 pub block-place-spec : {M : Type 1} → statement M
 block-place-spec =
@@ -65,10 +55,7 @@ block-place-spec =
     returns-2
     step-place-requires-2
     returns-3
-    round-place-requires
+    rounds-place-requires
     returns-4
-    add-round-place
-    round-place-requires-2
-    returns-5
     step-place-requires-3
-    returns-6)
+    returns-5)

@@ -2,7 +2,7 @@
 use mathlib.Core.Path.{_∙_, ap, subst, sym}
 use native.Mathlib.Omega.{arith}
 use borrow.Author.Needs.{needs}
-use Rattle.circuit.proofs.NextPlace.{Inner, after, next-line}
+use Rattle.circuit.proofs.place.NextPlace.{Inner, after, next-line}
 use Rattle.circuit.specs.Places.{rowCount}
 use Rattle.sm3.specs.Message.{blocks}
 use Rattle.circuit.proofs.place.next_place.Statement.{statement}
@@ -30,7 +30,7 @@ place-of-requires : tie.Need-place-of-requires
 place-of-requires c κs = search needs
 
 returns-2 : tie.Need-returns-2
-returns-2 c = c .place-of .ensures .0
+returns-2 c = c .place-of .ensures
 
 pub next-place-spec : {M : Type 1} → statement M
 next-place-spec =

@@ -4,8 +4,8 @@ use Rattle.circuit.specs.Places.{rowCount}
 use Rattle.circuit.proofs.place.row_count.Statement.{statement}
 use Rattle.circuit.proofs.place.row_count.Tie as tie
 
-blocks-of-requires : tie.Need-blocks-of-requires
-blocks-of-requires c κs = search needs
+block-count-requires : tie.Need-block-count-requires
+block-count-requires c κs = search needs
 
 mul-result : tie.Need-mul-result
 mul-result c = search needs
@@ -18,4 +18,4 @@ unfolding rowCount
 returns c = search needs
 
 pub row-count-spec : {M : Type 1} → statement M
-row-count-spec = tie.close (tie.spec blocks-of-requires mul-result add-result returns)
+row-count-spec = tie.close (tie.spec block-count-requires mul-result add-result returns)

@@ -1,6 +1,6 @@
 -- The form at the place has terms in range and few of them, and they are filled in.
 use borrow.Author.Needs.{needs}
-use Rattle.circuit.proofs.FewTerms.{few-of}
+use Rattle.circuit.proofs.shape.Shape.{place-few}
 use Rattle.circuit.proofs.row.place_terms.Statement.{statement}
 use Rattle.circuit.proofs.row.place_terms.Tie as tie
 
@@ -10,7 +10,7 @@ form-of-requires c κs = search needs
 fill-requires : tie.Need-fill-requires
 fill-requires c κs =
     let form = c .before .form-of .ensures in
-    (search needs, form .1, rw (form .0) (few-of _ _ _ _ _))
+    (search needs, form .1, rw (form .0) (place-few _ _ _ _ _ (c .before .before .before .pre .1)))
 
 same-length : tie.Need-same-length
 same-length c = search needs

@@ -1,7 +1,7 @@
 -- Each refusal is one case of the answer, told by the tests before it; past them the row's terms are written.
 use mathlib.Core.Path.{refl, _∙_}
 use borrow.Author.Needs.{needs}
-use Rattle.circuit.proofs.RowAnswers.{filled-counted, filled-left, length-above, room-short, row-given, row-outside}
+use Rattle.circuit.proofs.row.RowAnswers.{filled-counted, filled-left, length-above, room-short, row-given, row-outside}
 use Rattle.circuit.specs.RowAnswer.{rowLeft}
 use Rattle.circuit.proofs.row.row.Statement.{statement}
 use Rattle.circuit.proofs.row.row.Tie as tie
@@ -57,9 +57,9 @@ returns-4 c =
     let tests = c .before .before .before .before .before .before .before .before .before .before in
     let counted = tests .before .before in
     let filled = c .before .before .before .before .before .before .before .before .row-terms in (
-      filled-counted _ _ (filled .ensures)
+      filled-counted (filled .ensures)
           ∙ row-given _ _ _ (counted .before .if1 .left) (rw (counted .row-count .ensures) at (tests .before .if2 .left)) (tests .if3 .left),
-      filled-left _ _ (filled .ensures) _ _ (c .before .before .put-terms .ensures),
+      filled-left (filled .ensures) _ _ (search needs) (tests .if3 .left) (c .before .before .put-terms .ensures),
     )
 
 pub row-spec : {M : Type 1} → statement M

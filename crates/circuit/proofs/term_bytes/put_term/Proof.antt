@@ -1,10 +1,6 @@
 -- The 8 bytes of the coefficient go behind the 4 of the wire.
-use mathlib.Core.Path.{ap, _∙_}
-use Prim.Native.Nat.{_+_}
 use borrow.Author.Needs.{needs}
-use lib.Seq.{sets}
-use Rattle.circuit.proofs.TermBytes.{next-number}
-use Rattle.circuit.specs.RowAnswer.{leastFirst}
+use Rattle.circuit.proofs.term_bytes.TermBytes.{next-number}
 use Rattle.circuit.proofs.term_bytes.put_term.Statement.{statement}
 use Rattle.circuit.proofs.term_bytes.put_term.Tie as tie
 
@@ -24,11 +20,7 @@ returns : tie.Need-returns
 returns c =
     let second = c .before .before in
     let first = second .before .before .before .before in
-    let at = first .before .before .before .before .args .at in
-    let term = first .before .before .before .before .args .term in
-    second .put-number2 .ensures
-    ∙ ap (λ l. sets l (at + 4) (leastFirst 8 (term .coefficient))) (first .put-number .ensures)
-    ∙ next-number _ at term
+    next-number (first .before .before .before .before .args .term) (first .put-number .ensures) (second .put-number2 .ensures)
 
 pub put-term-spec : {M : Type 1} → statement M
 put-term-spec =

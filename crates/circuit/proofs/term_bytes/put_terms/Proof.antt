@@ -1,18 +1,18 @@
 -- Turn i writes term i behind the bytes of those before it.
 use Prim.Native.Nat.{_-_}
 use borrow.Author.Needs.{needs}
-use Rattle.circuit.proofs.TermBytes.{Written, written-all, written-next, written-none}
+use Rattle.circuit.proofs.term_bytes.TermBytes.{TermsWritten, terms-all, terms-next, terms-none}
 use Rattle.circuit.proofs.term_bytes.put_terms.Statement.{statement}
 use Rattle.circuit.proofs.term_bytes.put_terms.Tie as tie
 
 abbrev Inv-loop : tie.InvT-loop
-Inv-loop terms n out₀ i₀ out i = Written terms n out₀ out i
+Inv-loop terms n out₀ i₀ out i = TermsWritten terms n out₀ out i
 
 abbrev μ-loop : tie.MeasureT-loop
 μ-loop terms n out₀ i₀ out i = n - i
 
 loop-holds : tie.Need-loop-holds Inv-loop μ-loop
-loop-holds c = written-none _ _ _
+loop-holds c = terms-none _ _ _
 
 mul-put-term : tie.Need-mul-put-term Inv-loop μ-loop
 mul-put-term c = search needs
@@ -51,13 +51,13 @@ loop-again : tie.Need-loop-again Inv-loop μ-loop
 loop-again c =
     let head = c .before .before .before .before .before .before .before in
     let put = c .before .before in
-    written-next (head .loop .inv) (c .before .before .before .before .before .before .loop-test .taken) (head .before .before .before .pre .1) (put .put-term .kept .0) (put .put-term .ensures)
+    terms-next (head .loop .inv) (c .before .before .before .before .before .before .loop-test .taken) (put .put-term .ensures)
 
 same-length : tie.Need-same-length Inv-loop μ-loop
 same-length c = c .before .loop .inv .kept
 
 returns : tie.Need-returns Inv-loop μ-loop
-returns c = written-all (c .before .loop .inv) (c .loop-test .left)
+returns c = terms-all (c .before .loop .inv) (c .loop-test .left)
 
 pub put-terms-spec : {M : Type 1} → statement M
 put-terms-spec =

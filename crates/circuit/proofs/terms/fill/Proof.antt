@@ -1,6 +1,6 @@
 -- Each form has its own function, which says of that form what is asked of any.
 use borrow.Author.Needs.{needs}
-use Rattle.circuit.proofs.Appending.{filled-as}
+use Rattle.circuit.proofs.terms.WrittenTerms.{filled-as}
 use Rattle.circuit.proofs.terms.fill.Statement.{statement}
 use Rattle.circuit.proofs.terms.fill.Tie as tie
 

@@ -2,9 +2,9 @@
 use mathlib.Core.Path.{refl}
 use borrow.Author.Needs.{needs}
 use lib.Dec.{lit≤}
-use Rattle.circuit.proofs.Appending.{filled, three-runs}
+use Rattle.circuit.proofs.terms.WrittenTerms.{three-pieces}
 use Rattle.circuit.specs.Rows.{letters, nonzero, terms}
-use Rattle.circuit.specs.Terms.{unsorted}
+use Rattle.circuit.specs.Terms.{flat, unsorted}
 use Rattle.circuit.proofs.terms.fill_bit.Statement.{statement}
 use Rattle.circuit.proofs.terms.fill_bit.Tie as tie
 
@@ -24,13 +24,18 @@ same-length : tie.Need-same-length
 same-length c = search needs
 
 returns : tie.Need-returns
-unfolding letters nonzero terms unsorted
+unfolding flat letters nonzero terms unsorted
 returns c =
     let third = c .before .before in
     let second = third .before .before .before .before in
     let first = second .before .before .before .before in
-    filled (three-runs (first .push .ensures) (second .push2 .ensures) (third .push3 .ensures))
-    refl refl refl (lit≤ tt)
+    record {
+      a = refl;
+      b = refl;
+      c = refl;
+      written = three-pieces (first .push .ensures) (second .push2 .ensures) (third .push3 .ensures);
+      few = lit≤ tt;
+    }
 
 pub fill-bit-spec : {M : Type 1} → statement M
 fill-bit-spec =

@@ -2,9 +2,9 @@
 use mathlib.Core.Path.{refl}
 use native.Mathlib.Omega.{arith}
 use borrow.Author.Needs.{needs}
-use Rattle.circuit.proofs.Appending.{filled, three-runs}
+use Rattle.circuit.proofs.terms.WrittenTerms.{three-pieces}
 use Rattle.circuit.specs.Rows.{letters, nonzero, terms}
-use Rattle.circuit.specs.Terms.{unsorted}
+use Rattle.circuit.specs.Terms.{flat, unsorted}
 use Rattle.circuit.proofs.terms.fill_fixed.Statement.{statement}
 use Rattle.circuit.proofs.terms.fill_fixed.Tie as tie
 
@@ -21,13 +21,19 @@ same-length : tie.Need-same-length
 same-length c = search needs
 
 returns : tie.Need-returns
-unfolding letters nonzero terms unsorted
+unfolding flat letters nonzero terms unsorted
 returns c =
     let third = c .before .before in
     let second = third .before .before .before .before in
     let first = second .before .before .before .before in
-    filled (three-runs (first .push .ensures) (second .push2 .ensures) (third .push-constant .ensures .2))
-    refl refl (third .push-constant .ensures .1) (omega (arith, third .push-constant .ensures .0))
+    let constant = third .push-constant .ensures in
+    record {
+      a = refl;
+      b = refl;
+      c = constant .1;
+      written = three-pieces (first .push .ensures) (second .push2 .ensures) (constant .2);
+      few = omega (arith, constant .0);
+    }
 
 pub fill-fixed-spec : {M : Type 1} → statement M
 fill-fixed-spec =

@@ -3,9 +3,9 @@ use mathlib.Core.List.{[], _∷_}
 use mathlib.Core.Path.{refl}
 use borrow.Author.Needs.{needs}
 use lib.Dec.{lit≤}
-use Rattle.circuit.proofs.Appending.{filled, five-runs}
+use Rattle.circuit.proofs.terms.WrittenTerms.{five-pieces}
 use Rattle.circuit.specs.Rows.{_·_, less, letters, nonzero, terms}
-use Rattle.circuit.specs.Terms.{unsorted}
+use Rattle.circuit.specs.Terms.{flat, unsorted}
 use Rattle.circuit.proofs.terms.fill_majority.Statement.{statement}
 use Rattle.circuit.proofs.terms.fill_majority.Tie as tie
 
@@ -34,7 +34,7 @@ same-length : tie.Need-same-length
 same-length c = search needs
 
 returns : tie.Need-returns
-unfolding letters nonzero terms unsorted
+unfolding flat letters nonzero terms unsorted
 returns c =
     let fifth = c .before .before in
     let fourth = fifth .before .before .before .before in
@@ -42,12 +42,17 @@ returns c =
     let second = third .before .before .before .before in
     let first = second .before .before .before .before in
     let at = first .before .before .before .args in
-    let plus = 1 · at .x ∷ 1 · at .y ∷ 1 · at .z ∷ [] in
-    let minus = less 1 · at .x ∷ less 1 · at .y ∷ less 1 · at .z ∷ [] in
-    filled
-    (five-runs {ts = plus} {ws = minus}
-    (first .push-three .ensures) (second .push .ensures) (third .push2 .ensures) (fourth .push-three2 .ensures) (fifth .push3 .ensures))
-    refl refl refl (lit≤ tt)
+    let plus = flat (1 · at .x ∷ 1 · at .y ∷ 1 · at .z ∷ []) in
+    let minus = flat (less 1 · at .x ∷ less 1 · at .y ∷ less 1 · at .z ∷ []) in
+    record {
+      a = refl;
+      b = refl;
+      c = refl;
+      written =
+          five-pieces {vs = plus} {ys = minus} (first .push-three .ensures) (second .push .ensures) (third .push2 .ensures)
+          (fourth .push-three2 .ensures) (fifth .push3 .ensures);
+      few = lit≤ tt;
+    }
 
 pub fill-majority-spec : {M : Type 1} → statement M
 fill-majority-spec =

@@ -3,9 +3,9 @@ use mathlib.Core.List.{[], _∷_}
 use mathlib.Core.Path.{refl}
 use borrow.Author.Needs.{needs}
 use lib.Dec.{lit≤}
-use Rattle.circuit.proofs.Appending.{filled, five-runs}
+use Rattle.circuit.proofs.terms.WrittenTerms.{five-pieces}
 use Rattle.circuit.specs.Rows.{_·_, letters, nonzero, terms}
-use Rattle.circuit.specs.Terms.{unsorted}
+use Rattle.circuit.specs.Terms.{flat, unsorted}
 use Rattle.circuit.proofs.terms.fill_xor_of_three.Statement.{statement}
 use Rattle.circuit.proofs.terms.fill_xor_of_three.Tie as tie
 
@@ -37,7 +37,7 @@ same-length : tie.Need-same-length
 same-length c = search needs
 
 returns : tie.Need-returns
-unfolding letters nonzero terms unsorted
+unfolding flat letters nonzero terms unsorted
 returns c =
     let fifth = c .before .before in
     let fourth = fifth .before .before .before .before in
@@ -45,11 +45,16 @@ returns c =
     let second = third .before .before .before .before in
     let first = second .before .before .before .before in
     let at = first .before .before .before .args in
-    let sum = 1 · at .x ∷ 1 · at .y ∷ 1 · at .z ∷ [] in
-    filled
-    (five-runs {ts = sum} {vs = sum}
-    (first .push-three .ensures) (second .push .ensures) (third .push-three2 .ensures) (fourth .push2 .ensures) (fifth .push3 .ensures))
-    refl refl refl (lit≤ tt)
+    let sum = flat (1 · at .x ∷ 1 · at .y ∷ 1 · at .z ∷ []) in
+    record {
+      a = refl;
+      b = refl;
+      c = refl;
+      written =
+          five-pieces {vs = sum} {xs = sum} (first .push-three .ensures) (second .push .ensures) (third .push-three2 .ensures)
+          (fourth .push2 .ensures) (fifth .push3 .ensures);
+      few = lit≤ tt;
+    }
 
 pub fill-xor-of-three-spec : {M : Type 1} → statement M
 fill-xor-of-three-spec =

@@ -2,9 +2,9 @@
 use mathlib.Core.Path.{refl}
 use borrow.Author.Needs.{needs}
 use lib.Dec.{lit≤}
-use Rattle.circuit.proofs.Appending.{filled, five-runs}
+use Rattle.circuit.proofs.terms.WrittenTerms.{five-pieces}
 use Rattle.circuit.specs.Rows.{letters, nonzero, terms}
-use Rattle.circuit.specs.Terms.{unsorted}
+use Rattle.circuit.specs.Terms.{flat, unsorted}
 use Rattle.circuit.proofs.terms.fill_xor_of_two.Statement.{statement}
 use Rattle.circuit.proofs.terms.fill_xor_of_two.Tie as tie
 
@@ -30,16 +30,22 @@ same-length : tie.Need-same-length
 same-length c = search needs
 
 returns : tie.Need-returns
-unfolding letters nonzero terms unsorted
+unfolding flat letters nonzero terms unsorted
 returns c =
     let fifth = c .before .before in
     let fourth = fifth .before .before .before .before in
     let third = fourth .before .before .before .before in
     let second = third .before .before .before .before in
     let first = second .before .before .before .before in
-    filled
-    (five-runs (first .push .ensures) (second .push2 .ensures) (third .push3 .ensures) (fourth .push4 .ensures) (fifth .push5 .ensures))
-    refl refl refl (lit≤ tt)
+    record {
+      a = refl;
+      b = refl;
+      c = refl;
+      written =
+          five-pieces (first .push .ensures) (second .push2 .ensures) (third .push3 .ensures)
+          (fourth .push4 .ensures) (fifth .push5 .ensures);
+      few = lit≤ tt;
+    }
 
 pub fill-xor-of-two-spec : {M : Type 1} → statement M
 fill-xor-of-two-spec =

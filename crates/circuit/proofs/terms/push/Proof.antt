@@ -2,9 +2,10 @@
 use native.Mathlib.Omega.{arith}
 use borrow.Author.Needs.{needs}
 use lib.ListN.{length-set}
-use Rattle.circuit.proofs.Appending.{pushed}
+use Rattle.circuit.specs.Terms.{flat}
 use Rattle.circuit.proofs.terms.push.Statement.{statement}
 use Rattle.circuit.proofs.terms.push.Tie as tie
+use Rattle.encoding.proofs.Written.{written-two}
 
 mul-terms : tie.Need-mul-terms
 mul-terms c = search needs
@@ -31,7 +32,8 @@ same-length : tie.Need-same-length
 same-length c = search needs
 
 returns : tie.Need-returns
-returns c = pushed _ (c .args .n) (c .args .wire) (c .args .coefficient) (omega arith)
+unfolding flat
+returns c = written-two _ _ _ _
 
 pub push-spec : {M : Type 1} → statement M
 push-spec =

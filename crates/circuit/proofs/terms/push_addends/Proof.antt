@@ -1,6 +1,6 @@
 -- Two words make 64 terms and four words 128, each word behind the one before.
 use borrow.Author.Needs.{needs}
-use Rattle.circuit.proofs.SumTerms.{four-written, two-written}
+use Rattle.circuit.proofs.terms.SumTerms.{four-written, two-written}
 use Rattle.circuit.proofs.terms.push_addends.Statement.{statement}
 use Rattle.circuit.proofs.terms.push_addends.Tie as tie
 

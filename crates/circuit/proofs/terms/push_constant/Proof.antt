@@ -3,19 +3,20 @@ use mathlib.Core.List.{[], _∷_}
 use mathlib.Core.Path.{_≡_, refl}
 use borrow.Author.Needs.{needs}
 use lib.Dec.{lit≤}
-use Rattle.circuit.proofs.Appending.{nothing}
-use Rattle.circuit.proofs.Nonzero.{drops, keeps}
+use Rattle.circuit.proofs.shape.Nonzero.{drops, keeps}
 use Rattle.circuit.specs.Rows.{_·_, nonzero}
+use Rattle.circuit.specs.Terms.{flat}
 use Rattle.circuit.specs.Wires.{one}
 use Rattle.circuit.proofs.terms.push_constant.Statement.{statement}
 use Rattle.circuit.proofs.terms.push_constant.Tie as tie
+use Rattle.encoding.proofs.Written.{written-none}
 
 returns : tie.Need-returns
-unfolding nonzero
+unfolding flat nonzero
 returns c =
     let args = c .before .before .args in
     let none : nonzero (args .k · one ∷ []) ≡ [] = drops (args .k · one) [] (c .if1 .taken) in
-    rw none (lit≤ tt, refl, nothing (args .n) _)
+    rw none (lit≤ tt, refl, written-none _ _)
 
 push-requires : tie.Need-push-requires
 push-requires c κs = search needs

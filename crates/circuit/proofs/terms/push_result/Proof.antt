@@ -3,11 +3,12 @@ use Prim.Native.Nat.{_-_, _^_}
 use native.Mathlib.Omega.{arith}
 use borrow.Author.Needs.{needs}
 use lib.Pow.{shr-le}
-use Rattle.circuit.proofs.Weights.{Weighed, weighed-all, weighed-next, weighed-none}
+use Rattle.circuit.proofs.terms.Weights.{Weighed, weighed-all, weighed-next, weighed-none}
 use Rattle.circuit.specs.Rows.{less}
 use Rattle.circuit.specs.Wires.{at}
 use Rattle.circuit.proofs.terms.push_result.Statement.{statement}
 use Rattle.circuit.proofs.terms.push_result.Tie as tie
+use Rattle.encoding.proofs.Written.{length-written}
 
 abbrev Inv-loop : tie.InvT-loop
 Inv-loop terms₀ n r weight₀ i₀ terms weight i = Weighed less (at r) n terms₀ terms weight i
@@ -28,7 +29,7 @@ sub-push : tie.Need-sub-push Inv-loop μ-loop
 sub-push c = omega (arith, shr-le (2 ^ 31) (c .before .before .before .loop .i))
 
 push-requires : tie.Need-push-requires Inv-loop μ-loop
-push-requires c κs = search needs
+push-requires c κs = omega (arith, length-written (c .before .before .before .loop .inv .written))
 
 add-i : tie.Need-add-i Inv-loop μ-loop
 add-i c = search needs
@@ -46,7 +47,7 @@ loop-again c =
     (loop .loop .inv) (turn .loop-test .taken) (wire .wire-past .ensures) (written .push .ensures)
 
 same-length : tie.Need-same-length Inv-loop μ-loop
-same-length c = c .before .loop .inv .written .kept
+same-length c = length-written (c .before .loop .inv .written)
 
 returns : tie.Need-returns Inv-loop μ-loop
 returns c = weighed-all less (at (c .before .before .before .args .r)) _ (c .before .loop .inv) (c .loop-test .left)

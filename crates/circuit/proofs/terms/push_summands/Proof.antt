@@ -1,9 +1,8 @@
--- The constant is written behind the words; four words have none.
+-- The constant is written behind the words.
 use native.Mathlib.Omega.{arith}
 use borrow.Author.Needs.{needs}
 use lib.ListN.{length-append}
-use Rattle.circuit.proofs.Appending.{then}
-use Rattle.circuit.proofs.SumTerms.{summands-few}
+use Rattle.circuit.proofs.terms.WrittenTerms.{terms-then}
 use Rattle.circuit.proofs.terms.push_summands.Statement.{statement}
 use Rattle.circuit.proofs.terms.push_summands.Tie as tie
 
@@ -23,12 +22,11 @@ returns : tie.Need-returns
 returns c =
     let constant = c .before .before in
     let addends = constant .before .before .before .before in
-    let start = addends .before .before .before in
     let n = addends .push-addends .ensures in
     let m = constant .push-constant .ensures in (
-      summands-few (start .args .s) (start .args .constant) _ _ (n .1) (m .1) (m .0) (start .pre .5),
+      omega (arith, n .0, m .0),
       simp length-append (omega arith),
-      then _ (omega arith) (n .2) (m .2),
+      terms-then _ _ _ (omega arith) (n .2) (m .2),
     )
 
 pub push-summands-spec : {M : Type 1} → statement M

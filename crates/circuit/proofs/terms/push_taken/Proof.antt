@@ -1,13 +1,15 @@
 -- The two carries are written behind the result's 32 wires.
-use mathlib.Core.Path.{_≡_, ap}
-use Prim.Native.Nat.{_+_}
+use mathlib.Core.List.{[], _∷_, _++_}
+use Prim.Native.Nat.{_-_, _^_}
 use native.Mathlib.Omega.{arith}
 use borrow.Author.Needs.{needs}
-use Rattle.circuit.proofs.Appending.{then}
-use Rattle.circuit.specs.Rows.{taken}
-use Rattle.sm3.proofs.Tab.{length-tab}
+use Rattle.circuit.proofs.terms.WrittenTerms.{terms-then}
+use Rattle.circuit.specs.Rows.{_·_, less, taken}
+use Rattle.circuit.specs.Wires.{at as wire}
 use Rattle.circuit.proofs.terms.push_taken.Statement.{statement}
 use Rattle.circuit.proofs.terms.push_taken.Tie as tie
+use Rattle.encoding.proofs.Tab.{length-tab}
+use Rattle.encoding.specs.Sequence.{tab}
 
 push-result-requires : tie.Need-push-result-requires
 push-result-requires c κs = search needs
@@ -45,10 +47,12 @@ returns c =
     let third = c .before .before in
     let second = third .before .before .before .before .before in
     let first = second .before .before .before .before .before in
-    let n = first .before .before .before .args .n in
-    let carries : n + 32 + 1 ≡ n + 33 = omega arith in
-    then (n + 32) (ap (λ m. n + m) (length-tab 32 _)) (first .push-result .ensures)
-    (then (n + 33) carries
+    let at = first .before .before .before .args in
+    let result = tab 32 (λ i. less (2 ^ (31 - i)) · wire (at .r) i) in
+    let high = less (2 ^ 33) · wire (at .r) 32 ∷ [] in
+    let low = less (2 ^ 32) · wire (at .r) 33 ∷ [] in
+    terms-then result (high ++ low) _ (omega (arith, length-tab 32 (λ i. less (2 ^ (31 - i)) · wire (at .r) i))) (first .push-result .ensures)
+    (terms-then high low _ (omega arith)
     (rw (second .before .wire-past .ensures) at (second .push .ensures))
     (rw (third .before .wire-past2 .ensures) at (third .push2 .ensures)))
 

@@ -1,9 +1,10 @@
 -- Three terms, one behind the other.
-use mathlib.Core.Path.{refl}
+use native.Mathlib.Omega.{arith}
 use borrow.Author.Needs.{needs}
-use Rattle.circuit.proofs.Appending.{three-runs}
+use Rattle.circuit.specs.Terms.{flat}
 use Rattle.circuit.proofs.terms.push_three.Statement.{statement}
 use Rattle.circuit.proofs.terms.push_three.Tie as tie
+use Rattle.encoding.proofs.Written.{written-then}
 
 push-requires : tie.Need-push-requires
 push-requires c κs = search needs
@@ -24,11 +25,12 @@ same-length : tie.Need-same-length
 same-length c = search needs
 
 returns : tie.Need-returns
+unfolding flat
 returns c =
     let third = c .before .before in
     let second = third .before .before .before .before in
     let first = second .before .before .before .before in
-    three-runs (first .push .ensures) (second .push2 .ensures) (third .push3 .ensures)
+    written-then _ (omega arith) (written-then _ (omega arith) (first .push .ensures) (second .push2 .ensures)) (third .push3 .ensures)
 
 pub push-three-spec : {M : Type 1} → statement M
 push-three-spec =

@@ -1,11 +1,13 @@
 -- Turn i writes the term of bit i behind those of the bits before it.
 use Prim.Native.Nat.{_-_}
+use native.Mathlib.Omega.{arith}
 use borrow.Author.Needs.{needs}
-use Rattle.circuit.proofs.Weights.{Weighed, weighed-all, weighed-next, weighed-none}
+use Rattle.circuit.proofs.terms.Weights.{Weighed, weighed-all, weighed-next, weighed-none}
 use Rattle.circuit.specs.Rows.{weighted}
 use Rattle.circuit.specs.Wires.{wireAt}
 use Rattle.circuit.proofs.terms.push_word.Statement.{statement}
 use Rattle.circuit.proofs.terms.push_word.Tie as tie
+use Rattle.encoding.proofs.Written.{length-written}
 
 abbrev Inv-loop : tie.InvT-loop
 Inv-loop terms₀ n x weight₀ i₀ terms weight i = Weighed (λ k. k) (wireAt x) n terms₀ terms weight i
@@ -23,7 +25,7 @@ wire-of-bit-requires : tie.Need-wire-of-bit-requires Inv-loop μ-loop
 wire-of-bit-requires c κs = search needs
 
 push-requires : tie.Need-push-requires Inv-loop μ-loop
-push-requires c κs = search needs
+push-requires c κs = omega (arith, length-written (c .before .before .before .loop .inv .written))
 
 add-i : tie.Need-add-i Inv-loop μ-loop
 add-i c = search needs
@@ -41,7 +43,7 @@ loop-again c =
     (loop .loop .inv) (turn .loop-test .taken) (wire .wire-of-bit .ensures) (written .push .ensures)
 
 same-length : tie.Need-same-length Inv-loop μ-loop
-same-length c = c .before .loop .inv .written .kept
+same-length c = length-written (c .before .loop .inv .written)
 
 returns : tie.Need-returns Inv-loop μ-loop
 unfolding weighted

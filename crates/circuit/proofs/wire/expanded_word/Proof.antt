@@ -4,47 +4,39 @@ use borrow.Author.Tests.{le-ltb, lt-ltb}
 use Rattle.circuit.proofs.wire.expanded_word.Statement.{statement}
 use Rattle.circuit.proofs.wire.expanded_word.Tie as tie
 
-mul-word-from : tie.Need-mul-word-from
-mul-word-from c = search needs
+mul-t5 : tie.Need-mul-t5
+mul-t5 c = search needs
 
-add-word-from : tie.Need-add-word-from
-add-word-from c = search needs
+add-t6 : tie.Need-add-t6
+add-t6 c = search needs
 
 word-from-requires : tie.Need-word-from-requires
 word-from-requires c κs = search needs
 
 returns : tie.Need-returns
-returns c = rw (lt-ltb _ _ (c .before .if1 .taken)) (c .word-from .ensures)
+returns c = rw (lt-ltb _ _ (c .before .before .if1 .taken)) (c .word-from .ensures)
 
-add-word-from-2 : tie.Need-add-word-from-2
-add-word-from-2 c = search needs
+expansion-first-requires : tie.Need-expansion-first-requires
+expansion-first-requires c κs = search needs
 
-mul-word-from-2 : tie.Need-mul-word-from-2
-mul-word-from-2 c = search needs
-
-add-word-from-3 : tie.Need-add-word-from-3
-add-word-from-3 c = search needs
-
-add-word-from-4 : tie.Need-add-word-from-4
-add-word-from-4 c = search needs
+add-t8 : tie.Need-add-t8
+add-t8 c = search needs
 
 word-from-requires-2 : tie.Need-word-from-requires-2
 word-from-requires-2 c κs = search needs
 
 returns-2 : tie.Need-returns-2
-returns-2 c = rw (le-ltb _ _ (c .before .if1 .left)) (c .word-from2 .ensures)
+returns-2 c = rw (le-ltb _ _ (c .before .before .before .if1 .left), ← c .before .before .expansion-first .ensures) (c .word-from2 .ensures)
 
 pub expanded-word-spec : {M : Type 1} → statement M
 expanded-word-spec =
     tie.close
     (tie.spec
-    mul-word-from
-    add-word-from
+    mul-t5
+    add-t6
     word-from-requires
     returns
-    add-word-from-2
-    mul-word-from-2
-    add-word-from-3
-    add-word-from-4
+    expansion-first-requires
+    add-t8
     word-from-requires-2
     returns-2)

@@ -2,69 +2,79 @@
 use mathlib.Core.Path.{sym}
 use Prim.Native.Nat.{_-_}
 use borrow.Author.Needs.{needs}
-use Rattle.circuit.proofs.wire.Laws.{word-placed}
+use Rattle.circuit.proofs.wire.Placed.{word-placed}
 use Rattle.circuit.proofs.wire.origin.Statement.{statement}
 use Rattle.circuit.proofs.wire.origin.Tie as tie
 
-sub-result : tie.Need-sub-result
-sub-result c = search needs
+sub-t7 : tie.Need-sub-t7
+sub-t7 c = search needs
 
-mul-result : tie.Need-mul-result
-mul-result c = search needs
+mul-t8 : tie.Need-mul-t8
+mul-t8 c = search needs
 
-add-result : tie.Need-add-result
-add-result c = search needs
+add-t9 : tie.Need-add-t9
+add-t9 c = search needs
 
-mul-result-2 : tie.Need-mul-result-2
-mul-result-2 c = search needs
+mul-t11 : tie.Need-mul-t11
+mul-t11 c = search needs
 
-add-result-2 : tie.Need-add-result-2
-add-result-2 c = search needs
+add-t12 : tie.Need-add-t12
+add-t12 c = search needs
 
 returns : tie.Need-returns
-returns c = let b = c .before .args in
-    (sym (word-placed (b .first) (b .first - 256) (b .j) (b .k) (search needs) .begun (c .if1 .taken)), search needs)
+returns c =
+    let b = c .before .before .args in
+    (sym (word-placed (b .first .0) (b .first .0 - 256) (b .j) (b .k) (search needs) .begun (c .before .if1 .taken)), search needs)
 
-add-result-3 : tie.Need-add-result-3
-add-result-3 c = search needs
+add-t13 : tie.Need-add-t13
+add-t13 c = search needs
 
-mul-result-3 : tie.Need-mul-result-3
-mul-result-3 c = search needs
+add-t14 : tie.Need-add-t14
+add-t14 c = search needs
 
-add-result-4 : tie.Need-add-result-4
-add-result-4 c = search needs
+sub-t15 : tie.Need-sub-t15
+sub-t15 c = search needs
 
-sub-result-2 : tie.Need-sub-result-2
-sub-result-2 c = search needs
+mul-t16 : tie.Need-mul-t16
+mul-t16 c = search needs
 
-sub-result-3 : tie.Need-sub-result-3
-sub-result-3 c = search needs
+add-t17 : tie.Need-add-t17
+add-t17 c = search needs
 
-mul-result-4 : tie.Need-mul-result-4
-mul-result-4 c = search needs
+sub-t18 : tie.Need-sub-t18
+sub-t18 c = search needs
 
-add-result-5 : tie.Need-add-result-5
-add-result-5 c = search needs
+sub-t19 : tie.Need-sub-t19
+sub-t19 c = search needs
+
+mul-t20 : tie.Need-mul-t20
+mul-t20 c = search needs
+
+add-t21 : tie.Need-add-t21
+add-t21 c = search needs
 
 returns-2 : tie.Need-returns-2
-returns-2 c = let b = c .before .args in
-    (sym (word-placed (b .first) (b .first - 256) (b .j) (b .k) (search needs) .later (c .if1 .left)), search needs)
+returns-2 c =
+    let b = c .before .before .args in
+    (sym (word-placed (b .first .0) (b .first .0 - 256) (b .j) (b .k) (search needs) .later (c .before .if1 .left)), search needs)
 
 pub origin-spec : {M : Type 1} → statement M
 origin-spec =
     tie.close
     (tie.spec
-    sub-result
-    mul-result
-    add-result
-    mul-result-2
-    add-result-2
+    sub-t7
+    mul-t8
+    add-t9
+    mul-t11
+    add-t12
     returns
-    add-result-3
-    mul-result-3
-    add-result-4
-    sub-result-2
-    sub-result-3
-    mul-result-4
-    add-result-5
+    add-t13
+    add-t14
+    sub-t15
+    mul-t16
+    add-t17
+    sub-t18
+    sub-t19
+    mul-t20
+    add-t21
     returns-2)

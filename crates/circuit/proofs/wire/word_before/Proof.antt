@@ -1,10 +1,10 @@
--- The word's first wire is what `origin` gives, and `word-placed` has its turn in each of the three cases.
+-- The word's first wire is what `origin` gives, and `word-placed` has its rotation in each of the three cases.
 use mathlib.Core.Path.{_≡_, _∙_, ap}
 use Prim.Native.Nat.{_+_, _-_, _*_, _/_, _%_}
 use native.Mathlib.Omega.{arith}
 use borrow.Author.Needs.{needs}
 use Rattle.circuit.specs.Wires.{rotatedBy}
-use Rattle.circuit.proofs.wire.Laws.{word-known, word-placed}
+use Rattle.circuit.proofs.wire.Placed.{word-known, word-placed}
 use Rattle.circuit.proofs.wire.word_before.Statement.{statement}
 use Rattle.circuit.proofs.wire.word_before.Tie as tie
 
@@ -18,8 +18,8 @@ returns : tie.Need-returns
 returns c =
     let b = c .before .before in
     let a = b .before .args in
-    let turn = word-placed (a .first) (a .first - 256) (a .j) (a .k) (search needs) .straight (c .if1 .taken) in
-    (c .before .word-from .ensures .0 ∙ word-known _ _ 0 (b .origin .ensures .0) turn, c .before .word-from .ensures .1)
+    let rotation = word-placed (a .first .0) (a .first .0 - 256) (a .j) (a .k) (search needs) .straight (c .if1 .taken) in
+    (c .before .word-from .ensures .0 ∙ word-known _ _ 0 (b .origin .ensures .0) rotation, c .before .word-from .ensures .1)
 
 add-if2 : tie.Need-add-if2
 add-if2 c = search needs
@@ -28,8 +28,8 @@ returns-2 : tie.Need-returns-2
 returns-2 c =
     let b = c .before .before .before in
     let a = b .before .args in
-    let turn = word-placed (a .first) (a .first - 256) (a .j) (a .k) (search needs) .early (c .if2 .taken) in
-    (c .before .before .word-from .ensures .0 ∙ word-known _ _ 0 (b .origin .ensures .0) turn, c .before .before .word-from .ensures .1)
+    let rotation = word-placed (a .first .0) (a .first .0 - 256) (a .j) (a .k) (search needs) .early (c .if2 .taken) in
+    (c .before .before .word-from .ensures .0 ∙ word-known _ _ 0 (b .origin .ensures .0) rotation, c .before .before .word-from .ensures .1)
 
 mul-rotated : tie.Need-mul-rotated
 mul-rotated c = search needs
@@ -45,13 +45,13 @@ returns-3 c =
     let b = c .before .before .before .before in
     let a = b .before .args in
     let t = 9 + 10 * (a .k / 4) in
-    let turn =
-    word-placed (a .first) (a .first - 256) (a .j) (a .k) (search needs) .rotated (c .before .before .if1 .left)
+    let rotation =
+    word-placed (a .first .0) (a .first .0 - 256) (a .j) (a .k) (search needs) .rotated (c .before .before .if1 .left)
     (c .before .if2 .left) in
     let once : t ≡ (0 + t) % 32 = omega arith in (
       c .rotated .ensures .0
           ∙ ap (rotatedBy t) (c .before .before .before .word-from .ensures .0)
-          ∙ word-known _ _ _ (b .origin .ensures .0) (turn ∙ once),
+          ∙ word-known _ _ _ (b .origin .ensures .0) (rotation ∙ once),
       c .rotated .ensures .1,
     )
 

@@ -1,6 +1,6 @@
 -- The code is the definition, with what the calls ensure put in; its tests choose as the definition's do.
 use borrow.Author.Needs.{needs}
-use Rattle.circuit.proofs.word_form.Laws.{paired-bit, paired-equation}
+use Rattle.circuit.proofs.word_form.LineForms.{paired-bit, paired-equation}
 use Rattle.circuit.proofs.word_form.pair.Statement.{statement}
 use Rattle.circuit.proofs.word_form.pair.Tie as tie
 

@@ -2,7 +2,7 @@
 use mathlib.Core.Path.{_∙_, ap}
 use borrow.Author.Needs.{needs}
 use Rattle.circuit.specs.Wires.{rotatedBy}
-use Rattle.circuit.proofs.word_form.Laws.{same-pair}
+use Rattle.circuit.proofs.word_form.LineForms.{same-pair}
 use Rattle.circuit.proofs.word_form.permuted.Statement.{statement}
 use Rattle.circuit.proofs.word_form.permuted.Tie as tie
 

@@ -4,28 +4,18 @@ use Rattle.circuit.specs.Circuit.{p1Form}
 use Rattle.circuit.proofs.step_form.expansion.p1_form.Statement.{statement}
 use Rattle.circuit.proofs.step_form.expansion.p1_form.Tie as tie
 
-add-q : tie.Need-add-q
-add-q c = search needs
+expansion-first-requires : tie.Need-expansion-first-requires
+expansion-first-requires c κs = search needs
 
-sub-q : tie.Need-sub-q
-sub-q c = search needs
-
-mul-q : tie.Need-mul-q
-mul-q c = search needs
-
-add-q-2 : tie.Need-add-q-2
-add-q-2 c = search needs
-
-add-permuted : tie.Need-add-permuted
-add-permuted c = search needs
+add-t5 : tie.Need-add-t5
+add-t5 c = search needs
 
 permuted-requires : tie.Need-permuted-requires
 permuted-requires c κs = search needs
 
 returns : tie.Need-returns
 unfolding p1Form
-returns c = c .permuted .ensures
+returns c = rw (← c .before .before .expansion-first .ensures) (c .permuted .ensures)
 
 pub p1-form-spec : {M : Type 1} → statement M
-p1-form-spec =
-    tie.close (tie.spec add-q sub-q mul-q add-q-2 add-permuted permuted-requires returns)
+p1-form-spec = tie.close (tie.spec expansion-first-requires add-t5 permuted-requires returns)

@@ -2,9 +2,9 @@
 use mathlib.Core.Path.{_∙_, ap}
 use borrow.Author.Needs.{needs}
 use Rattle.circuit.specs.Circuit.{qForm}
-use Rattle.circuit.specs.Wires.{rotatedBy}
+use Rattle.circuit.specs.Wires.{rotatedBy, standing}
+use Rattle.circuit.proofs.word_form.LineForms.{same-pair}
 use Rattle.circuit.proofs.step_form.expansion.q_form.Statement.{statement}
-use Rattle.circuit.proofs.word_form.Laws.{same-pair}
 use Rattle.circuit.proofs.step_form.expansion.q_form.Tie as tie
 
 sub-expanded-word : tie.Need-sub-expanded-word
@@ -28,17 +28,8 @@ expanded-word-requires-3 c κs = search needs
 rotated-requires : tie.Need-rotated-requires
 rotated-requires c κs = search needs
 
-add-word-from : tie.Need-add-word-from
-add-word-from c = search needs
-
-sub-word-from : tie.Need-sub-word-from
-sub-word-from c = search needs
-
-mul-word-from : tie.Need-mul-word-from
-mul-word-from c = search needs
-
-add-word-from-2 : tie.Need-add-word-from-2
-add-word-from-2 c = search needs
+expansion-first-requires : tie.Need-expansion-first-requires
+expansion-first-requires c κs = search needs
 
 word-from-requires : tie.Need-word-from-requires
 word-from-requires c κs = search needs
@@ -50,10 +41,11 @@ returns : tie.Need-returns
 unfolding qForm
 returns c =
     let b = c .before in
-    let x = b .before .before .before .before .expanded-word .ensures .0 in
-    let y = b .before .before .before .expanded-word2 .ensures .0 in
-    let z = b .before .rotated .ensures .0 ∙ ap (rotatedBy 15) (b .before .before .expanded-word3 .ensures .0) in
-    let r = b .word-from .ensures .0 in
+    let w = b .before .before in
+    let x = w .before .before .before .expanded-word .ensures .0 in
+    let y = w .before .before .expanded-word2 .ensures .0 in
+    let z = w .rotated .ensures .0 ∙ ap (rotatedBy 15) (w .before .expanded-word3 .ensures .0) in
+    let r = b .word-from .ensures .0 ∙ ap standing (b .before .expansion-first .ensures) in
     same-pair _ _ (c .pair .ensures) x y z r
 
 pub q-form-spec : {M : Type 1} → statement M
@@ -67,10 +59,7 @@ q-form-spec =
     sub-expanded-word-3
     expanded-word-requires-3
     rotated-requires
-    add-word-from
-    sub-word-from
-    mul-word-from
-    add-word-from-2
+    expansion-first-requires
     word-from-requires
     pair-requires
     returns)

@@ -1,26 +1,18 @@
 -- The code is the definition, with what the calls ensure put in.
 use mathlib.Core.Path.{_∙_, ap}
+use Prim.Native.Nat.{_+_}
 use borrow.Author.Needs.{needs}
 use Rattle.circuit.specs.Circuit.{wForm}
-use Rattle.circuit.specs.Wires.{rotatedBy}
+use Rattle.circuit.specs.Wires.{rotatedBy, standing}
+use Rattle.circuit.proofs.word_form.LineForms.{same-pair}
 use Rattle.circuit.proofs.step_form.expansion.w_form.Statement.{statement}
-use Rattle.circuit.proofs.word_form.Laws.{same-pair}
 use Rattle.circuit.proofs.step_form.expansion.w_form.Tie as tie
 
-add-word-from : tie.Need-add-word-from
-add-word-from c = search needs
+expansion-first-requires : tie.Need-expansion-first-requires
+expansion-first-requires c κs = search needs
 
-sub-word-from : tie.Need-sub-word-from
-sub-word-from c = search needs
-
-mul-word-from : tie.Need-mul-word-from
-mul-word-from c = search needs
-
-add-word-from-2 : tie.Need-add-word-from-2
-add-word-from-2 c = search needs
-
-add-word-from-3 : tie.Need-add-word-from-3
-add-word-from-3 c = search needs
+add-expanded-word : tie.Need-add-expanded-word
+add-expanded-word c = search needs
 
 word-from-requires : tie.Need-word-from-requires
 word-from-requires c κs = search needs
@@ -50,7 +42,8 @@ returns : tie.Need-returns
 unfolding wForm
 returns c =
     let b = c .before in
-    let x = b .before .before .before .before .word-from .ensures .0 in
+    let q = b .before .before .before .before in
+    let x = q .word-from .ensures .0 ∙ ap (λ w. standing (w + 32)) (q .before .before .expansion-first .ensures) in
     let y = b .before .before .rotated .ensures .0 ∙ ap (rotatedBy 7) (b .before .before .before .expanded-word .ensures .0) in
     let z = b .before .expanded-word2 .ensures .0 in
     let r = b .expanded-word3 .ensures .0 in
@@ -60,11 +53,8 @@ pub w-form-spec : {M : Type 1} → statement M
 w-form-spec =
     tie.close
     (tie.spec
-    add-word-from
-    sub-word-from
-    mul-word-from
-    add-word-from-2
-    add-word-from-3
+    expansion-first-requires
+    add-expanded-word
     word-from-requires
     sub-expanded-word
     expanded-word-requires

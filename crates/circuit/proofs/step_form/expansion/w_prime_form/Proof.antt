@@ -1,8 +1,8 @@
 -- The code is the definition, with what the calls ensure put in.
 use borrow.Author.Needs.{needs}
 use Rattle.circuit.specs.Circuit.{wPrimeForm}
+use Rattle.circuit.proofs.word_form.LineForms.{same-xor}
 use Rattle.circuit.proofs.step_form.expansion.w_prime_form.Statement.{statement}
-use Rattle.circuit.proofs.word_form.Laws.{same-xor}
 use Rattle.circuit.proofs.step_form.expansion.w_prime_form.Tie as tie
 
 expanded-word-requires : tie.Need-expanded-word-requires
@@ -14,17 +14,8 @@ add-expanded-word c = search needs
 expanded-word-requires-2 : tie.Need-expanded-word-requires-2
 expanded-word-requires-2 c κs = search needs
 
-add-word-from : tie.Need-add-word-from
-add-word-from c = search needs
-
-mul-word-from : tie.Need-mul-word-from
-mul-word-from c = search needs
-
-add-word-from-2 : tie.Need-add-word-from-2
-add-word-from-2 c = search needs
-
-word-from-requires : tie.Need-word-from-requires
-word-from-requires c κs = search needs
+pair-word-requires : tie.Need-pair-word-requires
+pair-word-requires c κs = search needs
 
 xor-of-two-requires : tie.Need-xor-of-two-requires
 xor-of-two-requires c κs = search needs
@@ -35,7 +26,7 @@ returns c =
     let b = c .before in
     let x = b .before .before .expanded-word .ensures .0 in
     let y = b .before .expanded-word2 .ensures .0 in
-    let r = b .word-from .ensures .0 in
+    let r = b .pair-word .ensures .0 in
     same-xor _ (c .xor-of-two .ensures) x y r
 
 pub w-prime-form-spec : {M : Type 1} → statement M
@@ -45,9 +36,6 @@ w-prime-form-spec =
     expanded-word-requires
     add-expanded-word
     expanded-word-requires-2
-    add-word-from
-    mul-word-from
-    add-word-from-2
-    word-from-requires
+    pair-word-requires
     xor-of-two-requires
     returns)

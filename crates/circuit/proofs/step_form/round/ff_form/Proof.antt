@@ -1,8 +1,8 @@
 -- The code is the definition, with what the calls ensure put in.
 use borrow.Author.Needs.{needs}
 use Rattle.circuit.specs.Circuit.{ffForm}
+use Rattle.circuit.proofs.word_form.LineForms.{same-pair}
 use Rattle.circuit.proofs.step_form.round.ff_form.Statement.{statement}
-use Rattle.circuit.proofs.word_form.Laws.{same-pair}
 use Rattle.circuit.proofs.step_form.round.ff_form.Tie as tie
 
 word-before-requires : tie.Need-word-before-requires
@@ -14,20 +14,8 @@ word-before-requires-2 c κs = search needs
 word-before-requires-3 : tie.Need-word-before-requires-3
 word-before-requires-3 c κs = search needs
 
-add-word-from : tie.Need-add-word-from
-add-word-from c = search needs
-
-mul-word-from : tie.Need-mul-word-from
-mul-word-from c = search needs
-
-add-word-from-2 : tie.Need-add-word-from-2
-add-word-from-2 c = search needs
-
-add-word-from-3 : tie.Need-add-word-from-3
-add-word-from-3 c = search needs
-
-word-from-requires : tie.Need-word-from-requires
-word-from-requires c κs = search needs
+round-word-requires : tie.Need-round-word-requires
+round-word-requires c κs = search needs
 
 pair-requires : tie.Need-pair-requires
 pair-requires c κs = search needs
@@ -39,7 +27,7 @@ returns c =
     let x = b .before .before .before .word-before .ensures .0 in
     let y = b .before .before .word-before2 .ensures .0 in
     let z = b .before .word-before3 .ensures .0 in
-    let r = b .word-from .ensures .0 in
+    let r = b .round-word .ensures .0 in
     same-pair _ _ (c .pair .ensures) x y z r
 
 pub ff-form-spec : {M : Type 1} → statement M
@@ -49,10 +37,6 @@ ff-form-spec =
     word-before-requires
     word-before-requires-2
     word-before-requires-3
-    add-word-from
-    mul-word-from
-    add-word-from-2
-    add-word-from-3
-    word-from-requires
+    round-word-requires
     pair-requires
     returns)

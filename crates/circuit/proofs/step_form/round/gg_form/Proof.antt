@@ -2,8 +2,8 @@
 use borrow.Author.Needs.{needs}
 use borrow.Author.Tests.{le-ltb, lt-ltb}
 use Rattle.circuit.specs.Circuit.{ggForm}
+use Rattle.circuit.proofs.word_form.LineForms.{same-choice, same-pair}
 use Rattle.circuit.proofs.step_form.round.gg_form.Statement.{statement}
-use Rattle.circuit.proofs.word_form.Laws.{same-choice, same-pair}
 use Rattle.circuit.proofs.step_form.round.gg_form.Tie as tie
 
 word-before-requires : tie.Need-word-before-requires
@@ -15,23 +15,17 @@ word-before-requires-2 c κs = search needs
 word-before-requires-3 : tie.Need-word-before-requires-3
 word-before-requires-3 c κs = search needs
 
-add-word-from : tie.Need-add-word-from
-add-word-from c = search needs
-
-mul-word-from : tie.Need-mul-word-from
-mul-word-from c = search needs
-
-add-word-from-2 : tie.Need-add-word-from-2
-add-word-from-2 c = search needs
-
-add-word-from-3 : tie.Need-add-word-from-3
-add-word-from-3 c = search needs
-
-word-from-requires : tie.Need-word-from-requires
-word-from-requires c κs = search needs
+round-word-requires : tie.Need-round-word-requires
+round-word-requires c κs = search needs
 
 pair-requires : tie.Need-pair-requires
-pair-requires c κs = search needs
+pair-requires c κs =
+    let b = c .before in
+    let x = b .before .before .before .word-before .ensures .1 in
+    let y = b .before .before .word-before2 .ensures .1 in
+    let z = b .before .word-before3 .ensures .1 in
+    let r = b .round-word .ensures .1 in
+    (x, y, z, r, rw (lt-ltb _ _ (c .if1 .taken)) at (b .before .before .before .before .pre .1 .2))
 
 returns : tie.Need-returns
 unfolding ggForm
@@ -40,7 +34,7 @@ returns c =
     let x = b .before .before .before .word-before .ensures .0 in
     let y = b .before .before .word-before2 .ensures .0 in
     let z = b .before .word-before3 .ensures .0 in
-    let r = b .word-from .ensures .0 in
+    let r = b .round-word .ensures .0 in
     rw (lt-ltb _ _ (c .before .if1 .taken)) (same-pair _ _ (c .pair .ensures) x y z r)
 
 choice-requires : tie.Need-choice-requires
@@ -49,8 +43,8 @@ choice-requires c κs =
     let x = b .before .before .before .word-before .ensures .1 in
     let y = b .before .before .word-before2 .ensures .1 in
     let z = b .before .word-before3 .ensures .1 in
-    let r = b .word-from .ensures .1 in
-    (x, y, z, r, b .before .before .before .before .pre .2 .1 (c .if1 .left))
+    let r = b .round-word .ensures .1 in
+    (x, y, z, r, rw (le-ltb _ _ (c .if1 .left)) at (b .before .before .before .before .pre .1 .2))
 
 returns-2 : tie.Need-returns-2
 unfolding ggForm
@@ -59,7 +53,7 @@ returns-2 c =
     let x = b .before .before .before .word-before .ensures .0 in
     let y = b .before .before .word-before2 .ensures .0 in
     let z = b .before .word-before3 .ensures .0 in
-    let r = b .word-from .ensures .0 in
+    let r = b .round-word .ensures .0 in
     rw (le-ltb _ _ (c .before .if1 .left)) (same-choice _ (c .choice .ensures) x y z r)
 
 pub gg-form-spec : {M : Type 1} → statement M
@@ -69,11 +63,7 @@ gg-form-spec =
     word-before-requires
     word-before-requires-2
     word-before-requires-3
-    add-word-from
-    mul-word-from
-    add-word-from-2
-    add-word-from-3
-    word-from-requires
+    round-word-requires
     pair-requires
     returns
     choice-requires

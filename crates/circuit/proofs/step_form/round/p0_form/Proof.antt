@@ -4,28 +4,21 @@ use Rattle.circuit.specs.Circuit.{p0Form}
 use Rattle.circuit.proofs.step_form.round.p0_form.Statement.{statement}
 use Rattle.circuit.proofs.step_form.round.p0_form.Tie as tie
 
-add-u : tie.Need-add-u
-add-u c = search needs
+round-first-requires : tie.Need-round-first-requires
+round-first-requires c κs = search needs
 
-mul-u : tie.Need-mul-u
-mul-u c = search needs
+add-t5 : tie.Need-add-t5
+add-t5 c = search needs
 
-add-u-2 : tie.Need-add-u-2
-add-u-2 c = search needs
-
-add-permuted : tie.Need-add-permuted
-add-permuted c = search needs
-
-add-permuted-2 : tie.Need-add-permuted-2
-add-permuted-2 c = search needs
+add-t7 : tie.Need-add-t7
+add-t7 c = search needs
 
 permuted-requires : tie.Need-permuted-requires
 permuted-requires c κs = search needs
 
 returns : tie.Need-returns
 unfolding p0Form
-returns c = c .permuted .ensures
+returns c = rw (← c .before .before .before .round-first .ensures) (c .permuted .ensures)
 
 pub p0-form-spec : {M : Type 1} → statement M
-p0-form-spec =
-    tie.close (tie.spec add-u mul-u add-u-2 add-permuted add-permuted-2 permuted-requires returns)
+p0-form-spec = tie.close (tie.spec round-first-requires add-t5 add-t7 permuted-requires returns)

@@ -1,0 +1,4 @@
+pub mod FormLayout
+pub mod NextPlace
+pub mod PlaceRange
+pub mod WordByWord

@@ -1,0 +1,75 @@
+-- Every row has the shape that the document gives it. The wires of its form are apart from each other, so each part of its
+-- letters has different wires, and sorted it rises; what sorting and dropping zero terms leave are terms of the letters.
+use mathlib.Core.List.{List, _++_}
+use mathlib.Core.Path.{_≡_}
+use Prim.Native.Nat.{ℕ, _<_, _≤_}
+use native.Mathlib.Omega.{arith}
+use lib.ListN.{length, length-append}
+use Rattle.circuit.proofs.shape.All.{all-append, all-both}
+use Rattle.circuit.proofs.shape.Apart.{Parts, letters-few, letters-parts}
+use Rattle.circuit.proofs.shape.Rises.{Part, all-nonzero, all-normal, normal-length, normal-positive, normal-rises}
+use Rattle.circuit.proofs.shape.RowApart.{place-apart, row-apart}
+use Rattle.circuit.specs.Circuit.{formAt, formOf, rowAt}
+use Rattle.circuit.specs.Layout.{wireCount}
+use Rattle.circuit.specs.Places.{place, rowCount}
+use Rattle.circuit.specs.Ranges.{InRecord}
+use Rattle.circuit.specs.Rows.{Row, letters, nonzero, rowOf, terms, normalForm}
+use Rattle.circuit.specs.Shape.{All, Shaped, mostTerms}
+use Rattle.circuit.specs.Terms.{termCount, unsorted}
+use Rattle.circuit.specs.declared.form.Form.{Form}
+use Rattle.circuit.specs.declared.form.Term.{Term}
+use Rattle.circuit.specs.declared.place.Step.{Step}
+use Rattle.field.specs.Field.{p}
+
+-- what f leaves of each part, one after the other
+all-parts : (P : Term → Type 0) (f : List Term → List Term) (m : ℕ) → ((ts : List Term) → Part m ts → All P (f ts))
+    → (r : Row) → Parts m r → All P (f (r .A) ++ f (r .B) ++ f (r .C))
+all-parts P f m h r q =
+    all-append P (f (r .A) ++ f (r .B)) (f (r .C))
+    (all-append P (f (r .A)) (f (r .B)) (h (r .A) (q .a)) (h (r .B) (q .b)))
+    (h (r .C) (q .c))
+
+-- sorting drops no term
+normal-count : (f : Form) → length (terms (rowOf f)) ≡ termCount f
+unfolding rowOf terms unsorted
+normal-count f = simp (length-append, normal-length)
+
+-- a row's terms have room
+pub place-few : (n : ℕ) (s : Step) (i j l : ℕ) → InRecord n (place s i j l) → termCount (formOf n i s j l) ≤ mostTerms
+place-few n s i j l h = letters-few (wireCount n) (formOf n i s j l) (place-apart n s i j l h)
+
+module _ (n k : ℕ) (below : k < rowCount n) where
+  parts : Parts (wireCount n) (letters (formAt n k))
+  parts = letters-parts (wireCount n) (formAt n k) (row-apart n k below)
+
+  pub shape : Shaped n (rowAt n k)
+  unfolding rowAt rowOf terms
+  shape =
+      let m = wireCount n in
+      let l = letters (formAt n k) in
+      record {
+        a = normal-rises (l .A) (parts .a .distinct);
+        b = normal-rises (l .B) (parts .b .distinct);
+        c = normal-rises (l .C) (parts .c .distinct);
+        wires = all-parts (λ t. t .wire .0 < m) normalForm m (λ ts q. all-normal (λ t. t .wire .0 < m) ts (q .wires)) l parts;
+        coefficients =
+            all-parts (λ t. (1 ≤ t .coefficient) × (t .coefficient < p)) normalForm m
+            (λ ts q.
+            all-both (λ t. 1 ≤ t .coefficient) (λ t. t .coefficient < p) (normalForm ts) (normal-positive ts)
+            (all-normal (λ t. t .coefficient < p) ts (q .coefficients)))
+            l
+            parts;
+        few = omega (arith, normal-count (formAt n k), letters-few m (formAt n k) (row-apart n k below));
+      }
+
+  -- .. and of the terms in the letters' order
+  pub letters-within : All (λ t. (t .wire .0 < wireCount n) × (t .coefficient < p)) (terms (unsorted (formAt n k)))
+  unfolding unsorted terms
+  letters-within =
+      let m = wireCount n in
+      all-parts (λ t. (t .wire .0 < m) × (t .coefficient < p)) nonzero m
+      (λ ts q.
+      all-nonzero (λ t. (t .wire .0 < m) × (t .coefficient < p)) ts
+      (all-both (λ t. t .wire .0 < m) (λ t. t .coefficient < p) ts (q .wires) (q .coefficients)))
+      (letters (formAt n k))
+      parts

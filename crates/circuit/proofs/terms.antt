@@ -1,0 +1,5 @@
+pub mod Flat
+pub mod FlatAll
+pub mod SumTerms
+pub mod Weights
+pub mod WrittenTerms

@@ -1,0 +1,21 @@
+-- The layout's count.
+use borrow.Author.Needs.{needs}
+use Rattle.circuit.specs.Layout.{wireCount}
+use Rattle.circuit.proofs.wire.wire_count.Statement.{statement}
+use Rattle.circuit.proofs.wire.wire_count.Tie as tie
+
+block-count-requires : tie.Need-block-count-requires
+block-count-requires c κs = search needs
+
+mul-result : tie.Need-mul-result
+mul-result c = search needs
+
+add-result : tie.Need-add-result
+add-result c = search needs
+
+returns : tie.Need-returns
+unfolding wireCount
+returns c = search needs
+
+pub wire-count-spec : {M : Type 1} → statement M
+wire-count-spec = tie.close (tie.spec block-count-requires mul-result add-result returns)
