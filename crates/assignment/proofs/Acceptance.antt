@@ -11,19 +11,23 @@ use native.Mathlib.Omega.{arith}
 use borrow.Author.Count.{below-more, below-none}
 use borrow.Author.Tests.{eq-eqb, eqb-true, le-ltb, ltb-false, not-false}
 use lib.Dec.{eqb, lit≤}
-use lib.ListN.{length}
+use lib.ListN.{getD, length}
 use Rattle.assignment.specs.Assignment.{entry}
-use Rattle.assignment.specs.Check.{checkAnswer, checkNumber, lowest, same}
-use Rattle.assignment.specs.declared.check.CheckAnswer.{CheckAnswer}
-use Rattle.assignment.specs.declared.check.CheckAnswer.the-variants.{Accepted, LengthAboveLimit, DigestNot32, WrongLength, WireZero, DigestWire, Unsatisfied}
-use Rattle.assignment.proofs.Lowest.{LowestFailing, lowest-accepted, lowest-failing}
+use Rattle.assignment.specs.Check.{LowestFailing, afterRows, checkAnswer, lowest, same}
+use Rattle.assignment.specs.declared.rows_check.Verdict.{Verdict}
+use Rattle.assignment.specs.declared.rows_check.Verdict.the-variants.{AllSatisfied, Fails}
+use Rattle.refusal.specs.Refusals.{outcomeNumber, outcomeValues}
+use Rattle.refusal.specs.declared.outcome.Outcome.{Outcome}
+use Rattle.refusal.specs.declared.outcome.Outcome.the-variants.{Done, Refused}
+use Rattle.refusal.specs.declared.outcome.Refusal.the-variants.{DigestNot32, DigestWire, LengthAboveLimit, Unsatisfied, WireZero, WrongLength}
+use Rattle.assignment.proofs.Lowest.{lowest-all, lowest-failing}
 use Rattle.circuit.specs.Circuit.{rowAt}
 use Rattle.circuit.specs.Layout.{wireCount}
 use Rattle.circuit.specs.Places.{rowCount}
 use Rattle.circuit.specs.Rows.{Satisfied}
-use Rattle.circuit.specs.declared.place.RowNumber.{RowNumber}
-use Rattle.sm3.specs.Digest.{longest}
-use Rattle.sm3.specs.Message.{bitOfBytes}
+use Rattle.refusal.specs.declared.numbers.RowNumber.{RowNumber}
+use Rattle.sm3.specs.Message.{longest}
+use Rattle.encoding.specs.Bits.{bitOfBytes}
 
 -- `same` says that the places agree
 pub same-iff : (n : ℕ) (f g : ℕ → ℕ) → (same n f g ≡ true) ↔ ((k : ℕ) → k < n → f k ≡ g k)
@@ -47,10 +51,19 @@ equal-iff : (x y : ℕ) → (not (eqb x y) ≡ false) ↔ (x ≡ y)
 equal-iff x y = not-iff (eqb x y) (eqb-true x y, eq-eqb x y)
 
 -- another answer than the test's own comes from what follows, past the test
-past : (t : Bool) {P Q : Type 0} (x y z : CheckAnswer) → (t ≡ false) ↔ P → (checkNumber x ≡ checkNumber z → ⊥)
+past : (t : Bool) {P Q : Type 0} (x y z : Outcome) → (t ≡ false) ↔ P → (outcomeNumber x ≡ outcomeNumber z → ⊥)
     → (y ≡ z) ↔ Q → (cond t x y ≡ z) ↔ (P × Q)
-past true x y z test other next = (λ e. absurd (other (ap checkNumber e)), λ h. absurd (true≢false (test .1 (h .0))))
+past true x y z test other next = (λ e. absurd (other (ap outcomeNumber e)), λ h. absurd (true≢false (test .1 (h .0))))
 past false x y z test other next = (λ e. (test .0 refl, next .0 e), λ h. next .1 (h .1))
+
+-- the verdict is known by the answer
+done : (v : Verdict) → afterRows v ≡ Done → v ≡ AllSatisfied
+done AllSatisfied e = refl
+done (Fails k) e = absurd (omega (arith, ap outcomeNumber e))
+
+fails : (v : Verdict) (k : RowNumber) → afterRows v ≡ Refused (Unsatisfied k) → v ≡ Fails k
+fails AllSatisfied k e = absurd (omega (arith, ap outcomeNumber e))
+fails (Fails j) k e = ap (λ o. Fails (record { 0 = getD (outcomeValues o) 0 0 })) e
 
 -- the tests before the rows are passed
 pub record Passed (L : ℕ) (d a : List ℕ) : Type 0 where
@@ -66,44 +79,48 @@ pub record Accepts (L : ℕ) (d a : List ℕ) : Type 0 where
   pub satisfied : (k : ℕ) → k < rowCount (8 * L) → Satisfied (entry a) (rowAt (8 * L) k)
 
 module _ (L : ℕ) (d a : List ℕ) where
-  abbrev rowsAnswer : CheckAnswer
-  rowsAnswer = lowest (entry a) (rowAt (8 * L)) 0 (rowCount (8 * L))
+  abbrev rowsVerdict : Verdict
+  rowsVerdict = lowest (entry a) (rowAt (8 * L)) 0 (rowCount (8 * L))
 
   -- an answer that is none of the refusals 2 to 8
-  answer-of-rows : (z : CheckAnswer) → ((n : ℕ) → 2 ≤ n → n ≤ 8 → n ≡ checkNumber z → ⊥)
-      → (checkAnswer L d a ≡ z) ↔ (Passed L d a × (rowsAnswer ≡ z))
+  answer-of-rows : (z : Outcome) → ((n : ℕ) → 2 ≤ n → n ≤ 8 → n ≡ outcomeNumber z → ⊥)
+      → (checkAnswer L d a ≡ z) ↔ (Passed L d a × (afterRows rowsVerdict ≡ z))
   unfolding checkAnswer
   answer-of-rows z other =
       Iff·trans
-      (past _ LengthAboveLimit _ z (ltb-false longest L, le-ltb longest L) (other 2 (lit≤ tt) (lit≤ tt))
-      (past _ DigestNot32 _ z (equal-iff (length d) 32) (other 5 (lit≤ tt) (lit≤ tt))
-      (past _ WrongLength _ z (equal-iff (length a) (8 * wireCount (8 * L))) (other 6 (lit≤ tt) (lit≤ tt))
-      (past _ WireZero _ z (equal-iff (entry a 0) 1) (other 7 (lit≤ tt) (lit≤ tt))
-      (past _ DigestWire _ z (not-iff _ (same-iff 256 (λ k. entry a (1 + k)) (bitOfBytes d))) (other 8 (lit≤ tt) (lit≤ tt))
+      (past _ (Refused LengthAboveLimit) _ z (ltb-false longest L, le-ltb longest L) (other 2 (lit≤ tt) (lit≤ tt))
+      (past _ (Refused DigestNot32) _ z (equal-iff (length d) 32) (other 5 (lit≤ tt) (lit≤ tt))
+      (past _ (Refused WrongLength) _ z (equal-iff (length a) (8 * wireCount (8 * L))) (other 6 (lit≤ tt) (lit≤ tt))
+      (past _ (Refused WireZero) _ z (equal-iff (entry a 0) 1) (other 7 (lit≤ tt) (lit≤ tt))
+      (past _ (Refused DigestWire) _ z (not-iff _ (same-iff 256 (λ k. entry a (1 + k)) (bitOfBytes d))) (other 8 (lit≤ tt) (lit≤ tt))
       Iff·rfl))))) (
         λ (range, (digest, (length, (one, (wires, rows))))).
             (record { range = range; digest-length = digest; assignment-length = length; one = one; digest-wires = wires }, rows),
         λ (h, rows). (h .range, (h .digest-length, (h .assignment-length, (h .one, (h .digest-wires, rows))))),
       )
 
-  pub accepted-iff : (checkAnswer L d a ≡ Accepted) ↔ Accepts L d a
+  pub accepted-iff : (checkAnswer L d a ≡ Done) ↔ Accepts L d a
   accepted-iff =
-      Iff·trans (answer-of-rows Accepted (λ n l h e. omega arith)) (
+      Iff·trans (answer-of-rows Done (λ n l h e. omega arith)) (
         λ (h, rows).
             record {
               passed = h;
-              satisfied = λ k l. lowest-accepted (entry a) (rowAt (8 * L)) 0 (rowCount (8 * L)) .0 rows k (omega arith) (omega arith);
+              satisfied = λ k l. lowest-all (entry a) (rowAt (8 * L)) 0 (rowCount (8 * L)) .0 (done rowsVerdict rows) k (omega arith) (omega arith);
             },
         λ h. (
           h .passed,
-          lowest-accepted (entry a) (rowAt (8 * L)) 0 (rowCount (8 * L)) .1 (λ k l b. h .satisfied k (omega arith)),
+          ap afterRows (lowest-all (entry a) (rowAt (8 * L)) 0 (rowCount (8 * L)) .1 (λ k l b. h .satisfied k (omega arith))),
         ),
       )
 
   -- the row that is named fails, and every row below it holds
-  pub unsatisfied-lowest : (k : RowNumber) → checkAnswer L d a ≡ Unsatisfied k
+  pub unsatisfied-lowest : (k : RowNumber) → checkAnswer L d a ≡ Refused (Unsatisfied k)
       → LowestFailing (entry a) (rowAt (8 * L)) 0 (rowCount (8 * L)) (k .0)
   unsatisfied-lowest k e =
       subst (λ n. LowestFailing (entry a) (rowAt (8 * L)) 0 n (k .0)) (zero-add (rowCount (8 * L)))
       (lowest-failing (entry a) (rowAt (8 * L)) 0 (rowCount (8 * L)) k
-      (answer-of-rows (Unsatisfied k) (λ n l h e. omega arith) .0 e .1))
+      (fails rowsVerdict k (answer-of-rows (Refused (Unsatisfied k)) (λ n l h e. omega arith) .0 e .1)))
+
+  -- .. and the length is in range
+  pub in-range : (k : RowNumber) → checkAnswer L d a ≡ Refused (Unsatisfied k) → L ≤ longest
+  in-range k e = answer-of-rows (Refused (Unsatisfied k)) (λ n l h e. omega arith) .0 e .0 .range

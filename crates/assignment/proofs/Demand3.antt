@@ -10,20 +10,22 @@ use borrow.Author.Tests.{le-ltb}
 use lib.ListN.{drop, length, length-append, take}
 use lib.Seq.{length-take-le}
 use Rattle.assignment.specs.Assignment.{assignmentOf, entry, entryBytes}
-use Rattle.assignment.specs.Demand3.{Bytes, Demand3, HasWires, IsAccepted}
+use Rattle.assignment.specs.Demand3.{Demand3, HasWires, IsAccepted}
 use Rattle.assignment.proofs.Acceptance.{Accepts, accepted-iff}
-use Rattle.assignment.proofs.ByteBits.{bit-of-record, bytes-ext, length-record, record-bytes, recordOf}
 use Rattle.assignment.proofs.DigestBits.{bit-of-digest, digest-bytes, length-digest}
 use Rattle.assignment.proofs.Entries.{entry-lt, entry-take, entry-written, length-entries}
-use Rattle.circuit.proofs.Record.{readOff, wires-congruent}
-use Rattle.circuit.proofs.Runs.{Agree}
-use Rattle.circuit.proofs.WireBits.{judged-wires, wire-lt}
-use Rattle.circuit.proofs.Whole.{circuit, digest-agrees, some-record}
+use Rattle.circuit.proofs.exact.Record.{readOff, wires-congruent}
+use Rattle.circuit.proofs.exact.Runs.{Agree}
+use Rattle.circuit.proofs.exact.WireBits.{judged-wires, wire-lt}
+use Rattle.circuit.proofs.exact.Whole.{circuit, digest-agrees, some-record}
 use Rattle.circuit.specs.Circuit.{rowAt}
 use Rattle.circuit.specs.Layout.{wireCount, wireOf}
-use Rattle.sm3.proofs.Bytes.{bit-of-bytes-lt}
-use Rattle.sm3.specs.Digest.{longest}
-use Rattle.sm3.specs.Message.{bitOfBytes, digestBytes}
+use Rattle.sm3.specs.Message.{longest}
+use Rattle.sm3.specs.Message.{digestBytes}
+use Rattle.encoding.proofs.Bits.{bit-of-bytes-lt}
+use Rattle.encoding.proofs.ByteBits.{bit-of-record, bytes-ext, length-record, record-bytes, recordOf}
+use Rattle.encoding.specs.Bits.{bitOfBytes}
+use Rattle.encoding.specs.Bytes.{Bytes}
 
 -- An assignment with a record's wires is accepted against the record's digest.
 module _ (r a : List ℕ) (wires : HasWires r a) where

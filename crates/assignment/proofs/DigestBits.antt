@@ -4,92 +4,79 @@ use mathlib.Core.List.{List}
 use mathlib.Core.Path.{_≡_, _∙_, ap, ap₂, refl, subst, sym}
 use Prim.Native.Nat.{ℕ, zero, suc, _+_, _-_, _*_, _/_, _%_, _^_, _<_}
 use native.Mathlib.Omega.{arith}
-use lib.Dec.{lit<}
 use lib.ListN.{getD, length}
 use lib.Pow.{shr-shr}
-use Rattle.assignment.specs.Demand3.{Bytes}
-use Rattle.assignment.proofs.ByteBits.{tab-bytes}
 use Rattle.circuit.specs.Layout.{stateWires, wordWires}
-use Rattle.circuit.specs.Sequence.{grid}
-use Rattle.sm3.proofs.Bounds.{Words, digest-words}
-use Rattle.sm3.proofs.Numbers.{bit-of-number, number-of-bits}
-use Rattle.sm3.proofs.Tab.{getD-tab}
-use Rattle.sm3.specs.Message.{bitOfBytes, bytesOf, bytesOfWord, digestBytes, digestOf}
+use Rattle.sm3.specs.Message.{bytesOf, digestBytes, digestOf}
 use Rattle.sm3.specs.Sm3.{wordOf}
-use Rattle.sm3.specs.Words.{bit, tab}
+use Rattle.sm3.specs.Words.{bit}
 use Rattle.sm3.specs.declared.state.State.{State}
-
--- the words of a state by their number; past the eight stands 0
-word-lt : (s : State) → Words s → (k : ℕ) → wordOf s k < 2 ^ 32
-unfolding wordOf
-word-lt s w zero = w .a
-word-lt s w (suc zero) = w .b
-word-lt s w (suc (suc zero)) = w .c
-word-lt s w (suc (suc (suc zero))) = w .d
-word-lt s w (suc (suc (suc (suc zero)))) = w .e
-word-lt s w (suc (suc (suc (suc (suc zero))))) = w .f
-word-lt s w (suc (suc (suc (suc (suc (suc zero)))))) = w .g
-word-lt s w (suc (suc (suc (suc (suc (suc (suc zero))))))) = w .h
-word-lt s w (suc (suc (suc (suc (suc (suc (suc (suc k)))))))) = lit< tt
+use Rattle.encoding.proofs.Bits.{bit-of-number, number-of-bits}
+use Rattle.encoding.proofs.ByteBits.{tab-bytes}
+use Rattle.encoding.proofs.Tab.{getD-tab}
+use Rattle.encoding.specs.Bits.{bitOfBytes}
+use Rattle.encoding.specs.Bytes.{highestFirst}
+use Rattle.encoding.specs.Bytes.{Bytes}
+use Rattle.encoding.specs.Sequence.{grid, tab}
 
 -- The bytes of a word.
 
-byte-of-word : (x m : ℕ) → x < 2 ^ 32 → m < 4 → getD (bytesOfWord x) m 0 ≡ x / 2 ^ (24 - 8 * m) % 256
-unfolding bytesOfWord
-byte-of-word x zero h l = omega arith
-byte-of-word x (suc zero) h l = refl
-byte-of-word x (suc (suc zero)) h l = refl
-byte-of-word x (suc (suc (suc zero))) h l = omega arith
-byte-of-word x (suc (suc (suc (suc m)))) h l = absurd (omega arith)
+byte-of-word : (x m : ℕ) → m < 4 → getD (highestFirst 4 x) m 0 ≡ x / 2 ^ (24 - 8 * m) % 256
+unfolding highestFirst tab
+byte-of-word x zero l = refl
+byte-of-word x (suc zero) l = refl
+byte-of-word x (suc (suc zero)) l = refl
+byte-of-word x (suc (suc (suc zero))) l = refl
+byte-of-word x (suc (suc (suc (suc m)))) l = absurd (omega arith)
 
 -- the bits of a number's lowest byte are its own
 low-byte : (y i : ℕ) → i < 8 → y % 256 / 2 ^ (7 - i) % 2 ≡ y / 2 ^ (7 - i) % 2
 low-byte y i l =
     ap (λ z. z / 2 ^ (7 - i) % 2) (sym (number-of-bits 8 y)) ∙ bit-of-number 8 (λ j. y / 2 ^ (7 - j) % 2) i (λ j h. omega arith) l
 
-bit-of-word : (x m i : ℕ) → x < 2 ^ 32 → m < 4 → i < 8 → getD (bytesOfWord x) m 0 / 2 ^ (7 - i) % 2 ≡ bit (8 * m + i) x
+bit-of-word : (x m i : ℕ) → m < 4 → i < 8 → getD (highestFirst 4 x) m 0 / 2 ^ (7 - i) % 2 ≡ bit (8 * m + i) x
 unfolding bit
-bit-of-word x m i h lm li =
+bit-of-word x m i lm li =
     let place : 24 - 8 * m + (7 - i) ≡ 31 - (8 * m + i) = omega arith in
-    ap (λ y. y / 2 ^ (7 - i) % 2) (byte-of-word x m h lm)
+    ap (λ y. y / 2 ^ (7 - i) % 2) (byte-of-word x m lm)
     ∙ low-byte (x / 2 ^ (24 - 8 * m)) i li
     ∙ ap (λ y. y % 2) (shr-shr x (24 - 8 * m) (7 - i) ∙ ap (λ k. x / 2 ^ k) place)
 
 -- The bytes of eight words.
 
-bytes-of-state : (s : State) → bytesOf s ≡ tab 32 (λ k. getD (bytesOfWord (wordOf s (k / 4))) (k % 4) 0)
-unfolding bytesOf bytesOfWord wordOf tab
+bytes-of-state : (s : State) → bytesOf s ≡ tab 32 (λ k. getD (highestFirst 4 (wordOf s (k / 4))) (k % 4) 0)
+unfolding bytesOf highestFirst wordOf tab
 bytes-of-state s = refl
 
-byte-of-state : (s : State) (k : ℕ) → k < 32 → getD (bytesOf s) k 0 ≡ getD (bytesOfWord (wordOf s (k / 4))) (k % 4) 0
+byte-of-state : (s : State) (k : ℕ) → k < 32 → getD (bytesOf s) k 0 ≡ getD (highestFirst 4 (wordOf s (k / 4))) (k % 4) 0
 byte-of-state s k l = ap (λ bytes. getD bytes k 0) (bytes-of-state s) ∙ getD-tab 32 _ k 0 l
 
-module _ (s : State) (words : Words s) where
+module _ (s : State) where
   state-bytes : Bytes (bytesOf s)
   state-bytes =
       subst Bytes (sym (bytes-of-state s))
-      (tab-bytes 32 _ (λ k l. omega (arith, byte-of-word (wordOf s (k / 4)) (k % 4) (word-lt s words (k / 4)) (omega arith))))
+      (tab-bytes 32 _ (λ k l. omega (arith, byte-of-word (wordOf s (k / 4)) (k % 4) (omega arith))))
 
-  pub bit-of-state : (k : ℕ) → k < 256 → bitOfBytes (bytesOf s) k ≡ stateWires s k
+  bit-of-state : (k : ℕ) → k < 256 → bitOfBytes (bytesOf s) k ≡ stateWires s k
   unfolding bitOfBytes stateWires grid wordWires
   bit-of-state k l =
       let word : k / 8 / 4 ≡ k / 32 = omega arith in
       let place : 8 * (k / 8 % 4) + k % 8 ≡ k % 32 = omega arith in
       ap (λ y. y / 2 ^ (7 - k % 8) % 2) (byte-of-state s (k / 8) (omega arith))
-      ∙ bit-of-word (wordOf s (k / 8 / 4)) (k / 8 % 4) (k % 8) (word-lt s words (k / 8 / 4)) (omega arith) (omega arith)
+      ∙ bit-of-word (wordOf s (k / 8 / 4)) (k / 8 % 4) (k % 8) (omega arith) (omega arith)
       ∙ ap₂ (λ i j. bit i (wordOf s j)) place word
 
 -- The bytes of a record's digest.
 
 pub length-digest : (r : List ℕ) → length (digestBytes r) ≡ 32
-unfolding digestBytes bytesOf bytesOfWord
+unfolding digestBytes bytesOf highestFirst tab
 length-digest r = refl
 
 pub digest-bytes : (r : List ℕ) → Bytes (digestBytes r)
 unfolding digestBytes
-digest-bytes r = state-bytes _ (digest-words (8 * length r) (bitOfBytes r))
+digest-bytes r = state-bytes _
 
 pub bit-of-digest : (r : List ℕ) (k : ℕ) → k < 256
     → bitOfBytes (digestBytes r) k ≡ stateWires (digestOf (8 * length r) (bitOfBytes r)) k
 unfolding digestBytes
-bit-of-digest r = bit-of-state _ (digest-words (8 * length r) (bitOfBytes r))
+bit-of-digest r = bit-of-state _

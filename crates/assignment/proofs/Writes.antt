@@ -1,25 +1,25 @@
 -- Entries written one run after the other. A run is written where the one before it ends, so the bytes of the two stand one
 -- after the other, as those of the two sequences do; and runs of one length, one after the other, are a grid.
-use mathlib.Core.List.{List, [], _∷_, _++_, append-assoc, append-nil}
+use mathlib.Core.List.{List, _++_, append-assoc, append-nil}
 use mathlib.Core.Logic.{by-cases}
 use mathlib.Core.Path.{_≡_, _∙_, ap, ap₂, refl, subst, sym}
 use Prim.Native.Nat.{ℕ, zero, suc, _+_, _-_, _*_, _<_, _≤_}
 use native.Mathlib.Decide.{decLt}
 use native.Mathlib.Nat.{add-suc, add-zero, mul-add, mul-one}
 use native.Mathlib.Omega.{arith}
-use lib.ListN.{drop, length, set}
-use lib.Seq.{length-sets, sets, sets-eq}
+use lib.ListN.{drop, length}
 use Rattle.assignment.specs.Assignment.{entryBytes}
 use Rattle.assignment.specs.Wrote.{Wrote}
 use Rattle.assignment.proofs.Entries.{length-entries}
-use Rattle.circuit.proofs.Sequence.{beside-first, beside-then, grid-at}
-use Rattle.circuit.specs.RowAnswer.{leastFirst}
-use Rattle.circuit.specs.Sequence.{beside, grid}
+use Rattle.encoding.proofs.Sequence.{beside-first, beside-then, grid-at}
+use Rattle.encoding.specs.Bytes.{leastFirst}
+use Rattle.encoding.specs.Sequence.{beside, grid}
+use Rattle.encoding.proofs.Written.{length-written, written-as, written-before, written-front, written-none, written-then}
 
 -- The bytes of entries.
 
 -- only the first n values count
-pub entries-congruent : (n : ℕ) (s t : ℕ → ℕ) → ((k : ℕ) → k < n → s k ≡ t k) → entryBytes n s ≡ entryBytes n t
+entries-congruent : (n : ℕ) (s t : ℕ → ℕ) → ((k : ℕ) → k < n → s k ≡ t k) → entryBytes n s ≡ entryBytes n t
 unfolding entryBytes
 entries-congruent zero s t e = refl
 entries-congruent (suc n) s t e =
@@ -35,24 +35,15 @@ entries-beside n (suc m) s t =
     ∙ ap₂ (λ xs x. xs ++ leastFirst 8 x) (entries-beside n m s t) (beside-then n s t m)
     ∙ append-assoc (entryBytes n s) (entryBytes m t) (leastFirst 8 (t m))
 
--- Stores.
-
-sets-append : (xs ys l : List ℕ) (i : ℕ) → sets (sets l i xs) (i + length xs) ys ≡ sets l i (xs ++ ys)
-sets-append [] ys l i = ap (λ k. sets l k ys) (add-zero i)
-sets-append (x ∷ xs) ys l i =
-    let place : i + suc (length xs) ≡ suc i + length xs = omega arith in
-    ap (λ k. sets (sets (set l i x) (suc i) xs) k ys) place ∙ sets-append xs ys (set l i x) (suc i)
-
 -- Runs.
 
 pub length-wrote : {w n : ℕ} {s : ℕ → ℕ} {l l′ : List ℕ} → Wrote w n s l l′ → length l′ ≡ length l
-length-wrote {w} {n} {s} {l} h = ap length (h .left) ∙ length-sets l (8 * w) (entryBytes n s)
+length-wrote h = length-written (h .entries)
 
 -- the same run, of a sequence with the same values
 pub wrote-same : {w n : ℕ} {s : ℕ → ℕ} {l l′ : List ℕ} (t : ℕ → ℕ) → ((k : ℕ) → k < n → s k ≡ t k) → Wrote w n s l l′
     → Wrote w n t l l′
-wrote-same {w} {n} {s} {l} t e h =
-    record { left = h .left ∙ ap (sets l (8 * w)) (entries-congruent n s t e) }
+wrote-same {w} {n} {s} t e h = record { entries = written-as (entries-congruent n s t e) (h .entries) }
 
 -- .. or of an equal sequence
 pub wrote-as : {w n : ℕ} {s t : ℕ → ℕ} {l l′ : List ℕ} → s ≡ t → Wrote w n s l l′ → Wrote w n t l l′
@@ -61,23 +52,28 @@ wrote-as {w} {n} {s} {t} {l} {l′} e h = subst (λ r. Wrote w n r l l′) e h
 -- no entry
 pub wrote-none : (w : ℕ) (s : ℕ → ℕ) (l : List ℕ) → Wrote w 0 s l l
 unfolding entryBytes
-wrote-none w s l = record { left = refl }
+wrote-none w s l = record { entries = written-none (8 * w) l }
 
 -- one run after the other: the second begins at u, where the first ends
 pub wrote-then : {w n m : ℕ} {s t : ℕ → ℕ} {l l′ l″ : List ℕ} (u : ℕ) → u ≡ w + n → Wrote w n s l l′ → Wrote u m t l′ l″
     → Wrote w (n + m) (beside n s t) l l″
-wrote-then {w} {n} {m} {s} {t} {l} u e h h′ =
+wrote-then {w} {n} {m} {s} {t} u e h h′ =
     let place : 8 * u ≡ 8 * w + length (entryBytes n s) = omega (arith, length-entries n s) in
     record {
-      left =
-          h′ .left
-          ∙ ap₂ (λ b k. sets b k (entryBytes m t)) (h .left) place
-          ∙ sets-append (entryBytes n s) (entryBytes m t) l (8 * w)
-          ∙ ap (sets l (8 * w)) (sym (entries-beside n m s t));
+      entries = written-as (sym (entries-beside n m s t)) (written-then (8 * u) place (h .entries) (h′ .entries));
+    }
+
+-- .. or the second run first
+pub wrote-before : {w n m : ℕ} {s t : ℕ → ℕ} {l l′ l″ : List ℕ} (u : ℕ) → u ≡ w + n → Wrote u m t l l′ → Wrote w n s l′ l″
+    → Wrote w (n + m) (beside n s t) l l″
+wrote-before {w} {n} {m} {s} {t} u e h h′ =
+    let place : 8 * u ≡ 8 * w + length (entryBytes n s) = omega (arith, length-entries n s) in
+    record {
+      entries = written-as (sym (entries-beside n m s t)) (written-before (8 * u) place (h .entries) (h′ .entries));
     }
 
 -- m places more of one sequence
-pub wrote-on : {w n m : ℕ} {s t : ℕ → ℕ} {l l′ l″ : List ℕ} (u : ℕ) → u ≡ w + n → ((k : ℕ) → k < m → t k ≡ s (n + k))
+wrote-on : {w n m : ℕ} {s t : ℕ → ℕ} {l l′ l″ : List ℕ} (u : ℕ) → u ≡ w + n → ((k : ℕ) → k < m → t k ≡ s (n + k))
     → Wrote w n s l l′ → Wrote u m t l′ l″ → Wrote w (n + m) s l l″
 wrote-on {w} {n} {m} {s} {t} u e more h h′ =
     wrote-same s
@@ -108,6 +104,4 @@ wrote-row {w} {m} {l} {l′} {l″} s j u e h h′ =
 -- from wire 0 on: the entries, and then what stood there before
 pub wrote-front : {n : ℕ} {s : ℕ → ℕ} {l l′ : List ℕ} → 8 * n ≤ length l → Wrote 0 n s l l′
     → l′ ≡ entryBytes n s ++ drop (8 * n) l
-wrote-front {n} {s} {l} room h =
-    let end : 0 + length (entryBytes n s) ≡ 8 * n = omega (arith, length-entries n s) in
-    h .left ∙ sets-eq (entryBytes n s) l 0 (omega (arith, length-entries n s)) ∙ ap (λ k. entryBytes n s ++ drop k l) end
+wrote-front {n} {s} room h = written-front (8 * n) (length-entries n s) room (h .entries)

@@ -1,19 +1,13 @@
 -- Assignments as bytes (document 01, "Field and assignment").
 use mathlib.Core.List.{List, [], _++_}
-use Prim.Native.Nat.{ℕ, zero, suc, _+_, _*_}
-use lib.ListN.{getD}
+use Prim.Native.Nat.{ℕ, zero, suc, _*_}
 use Rattle.circuit.specs.Layout.{wireCount, wireOf}
-use Rattle.circuit.specs.RowAnswer.{leastFirst}
 use Rattle.field.specs.Field.{residue}
-
--- the number that n bytes from place k on write, "least byte first"
-unfoldable pub fromBytes : ℕ → List ℕ → ℕ → ℕ
-fromBytes zero bytes k = 0
-fromBytes (suc n) bytes k = getD bytes k 0 + 256 * fromBytes n bytes (k + 1)
+use Rattle.encoding.specs.Bytes.{fromLeastFirst, leastFirst}
 
 -- "An assignment has 8 bytes a wire, least byte first, read modulo p": what wire w reads as
 unfoldable pub entry : List ℕ → ℕ → ℕ
-entry bytes w = residue (fromBytes 8 bytes (8 * w))
+entry bytes w = residue (fromLeastFirst 8 bytes (8 * w))
 
 -- the bytes of n entries
 unfoldable pub entryBytes : ℕ → (ℕ → ℕ) → List ℕ

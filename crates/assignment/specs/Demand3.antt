@@ -5,22 +5,19 @@ use mathlib.Core.List.{List}
 use mathlib.Core.Logic.{_↔_}
 use mathlib.Core.Path.{_≡_}
 use Prim.Native.Nat.{ℕ, _*_, _≤_, _<_}
-use lib.ListN.{getD, length, take}
+use lib.ListN.{length, take}
 use Rattle.assignment.specs.Assignment.{entry}
 use Rattle.assignment.specs.Check.{checkAnswer}
 use Rattle.assignment.specs.Produce.{produceAnswer, produceLeft}
-use Rattle.assignment.specs.declared.check.CheckAnswer.the-variants.{Accepted}
+use Rattle.encoding.specs.Bytes.{Bytes}
+use Rattle.refusal.specs.declared.outcome.Outcome.the-variants.{Done}
 use Rattle.circuit.specs.Layout.{recordWire, wireCount, wireOf}
-use Rattle.sm3.specs.Digest.{longest}
-use Rattle.sm3.specs.Message.{bitOfBytes, digestBytes}
+use Rattle.sm3.specs.Message.{digestBytes, longest}
+use Rattle.encoding.specs.Bits.{bitOfBytes}
 
 -- "An assignment is accepted for a length against a digest when the check of these three returns no refusal"
 abbrev pub IsAccepted : ℕ → List ℕ → List ℕ → Type 0
-IsAccepted L d a = checkAnswer L d a ≡ Accepted
-
--- bytes are below 256
-abbrev pub Bytes : List ℕ → Type 0
-Bytes xs = (k : ℕ) → getD xs k 0 < 256
+IsAccepted L d a = checkAnswer L d a ≡ Done
 
 -- "A record has an assignment's wires modulo the prime when each entry reads as the record's wire of the same number"
 abbrev pub HasWires : List ℕ → List ℕ → Type 0

@@ -5,28 +5,22 @@ use Prim.Native.Nat.{ℕ, _*_}
 use lib.Dec.{ltb}
 use lib.ListN.{drop, length}
 use Rattle.assignment.specs.Assignment.{assignmentOf}
-use Rattle.assignment.specs.declared.produce.ProduceAnswer.{ProduceAnswer}
-use Rattle.assignment.specs.declared.produce.ProduceAnswer.the-variants.{Written, LengthAboveLimit, BufferTooShort}
 use Rattle.circuit.specs.Layout.{wireCount}
-use Rattle.sm3.specs.Digest.{longest}
-use Rattle.sm3.specs.Message.{bitOfBytes}
+use Rattle.encoding.specs.Bits.{bitOfBytes}
+use Rattle.refusal.specs.Refusals.{left}
+use Rattle.refusal.specs.declared.outcome.Outcome.{Outcome}
+use Rattle.refusal.specs.declared.outcome.Outcome.the-variants.{Done, Refused}
+use Rattle.refusal.specs.declared.outcome.Refusal.the-variants.{BufferTooShort, LengthAboveLimit}
+use Rattle.sm3.specs.Message.{longest}
 
 -- "2. The record length is above 1,015." "4. The buffer to be written is shorter than .. 8 × wires for an assignment": the
 -- answer for a record of `size` bytes and a buffer of `room` bytes
-abbrev pub produceAnswer : ℕ → ℕ → ProduceAnswer
+abbrev pub produceAnswer : ℕ → ℕ → Outcome
 produceAnswer size room =
-    cond (ltb longest size) LengthAboveLimit (cond (ltb room (8 * wireCount (8 * size))) BufferTooShort Written)
+    cond (ltb longest size) (Refused LengthAboveLimit)
+    (cond (ltb room (8 * wireCount (8 * size))) (Refused BufferTooShort) Done)
 
--- what is left in the buffer: the assignment and the bytes past it, which "keep their value"; "no lent byte changes" on a
--- refusal
-abbrev pub produceLeft : ProduceAnswer → List ℕ → List ℕ → List ℕ
-produceLeft Written bytes out =
-    assignmentOf (8 * length bytes) (bitOfBytes bytes) ++ drop (8 * wireCount (8 * length bytes)) out
-produceLeft LengthAboveLimit bytes out = out
-produceLeft BufferTooShort bytes out = out
-
--- the paper's number of each answer, 0 for none
-abbrev pub produceNumber : ProduceAnswer → ℕ
-produceNumber Written = 0
-produceNumber LengthAboveLimit = 2
-produceNumber BufferTooShort = 4
+-- what is left in the buffer: the assignment and the bytes past it, which "keep their value"
+abbrev pub produceLeft : Outcome → List ℕ → List ℕ → List ℕ
+produceLeft answer bytes out =
+    left answer (assignmentOf (8 * length bytes) (bitOfBytes bytes) ++ drop (8 * wireCount (8 * length bytes)) out) out

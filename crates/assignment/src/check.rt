@@ -1,43 +1,19 @@
 // The check of an assignment against a digest.
 ghost use mathlib.Core.Path.{_≡_};
-ghost use Prim.Native.Nat.{ℕ, _+_, _*_, _<_, _≤_};
+ghost use Prim.Native.Nat.{ℕ, _+_, _*_, _≤_};
 ghost use lib.ListN.{length};
 ghost use Rattle.assignment.specs.Assignment.{entry};
-ghost use Rattle.assignment.specs.Check.{checkAnswer, same};
-ghost use Rattle.sm3.specs.Message.{bitOfBytes};
+ghost use Rattle.assignment.specs.Check.{afterRows, checkAnswer, same};
+ghost use Rattle.encoding.specs.Bits.{bitOfBytes};
 use crate::entry::read;
-use crate::entry::wide;
-use crate::entry::wire_count;
+use crate::rows_check::Verdict;
 use crate::rows_check::lowest_unsatisfied;
-use circuit::place::RowNumber;
-use circuit::wire::WireNumber;
-
-// The answer of `check`.
-pub enum CheckAnswer {
-    // No refusal.
-    Accepted,
-    // Refusal 2: the record length is above 1,015.
-    LengthAboveLimit,
-    // Refusal 5: the digest is not 32 bytes.
-    DigestNot32,
-    // Refusal 6: the assignment is not 8 bytes a wire.
-    WrongLength,
-    // Refusal 7: wire 0 does not read as 1.
-    WireZero,
-    // Refusal 8: a digest wire does not read as its bit of the digest.
-    DigestWire,
-    // Refusal 9: the lowest row that is not satisfied.
-    Unsatisfied(RowNumber),
-}
-
-// Bit k of the digest, the highest bit of a byte first.
-fn digest_bit(digest: &[u8], k: u64) -> u64
-    requires { ⌜ k < 8 * length (now digest) ⌝ }
-    ensures { λ r. ⌜ r ≡ bitOfBytes (now (digest .entry)) k ⌝ }
-{
-    let at = (k / 8) as usize;
-    (wide(digest[at]) >> (7 - k % 8)) % 2
-}
+use circuit::wire::wire_count;
+use encoding::read::bit_at;
+use refusal::numbers::WireNumber;
+use refusal::outcome::Outcome;
+use refusal::outcome::Refusal;
+use sm3::message::LONGEST;
 
 // Whether each digest wire reads as its bit of the digest.
 fn digest_agrees(digest: &[u8], assignment: &[u8]) -> bool
@@ -45,32 +21,42 @@ fn digest_agrees(digest: &[u8], assignment: &[u8]) -> bool
     ensures { λ r. ⌜ r ≡ same 256 (λ (k : ℕ). entry (now (assignment .entry)) (1 + k)) (bitOfBytes (now (digest .entry))) ⌝ }
 {
     for k in 0..256 {
-        if read(assignment, WireNumber(1 + k)) != digest_bit(digest, k) {
+        if read(assignment, WireNumber(1 + k)) != bit_at(digest, k) {
             return false;
         }
     }
     true
 }
 
-// The check of an assignment for a record of `length` bytes against a digest.
-pub fn check(length: u64, digest: &[u8], assignment: &[u8]) -> CheckAnswer
-    ensures { λ r. ⌜ r ≡ checkAnswer length (now (digest .entry)) (now (assignment .entry)) ⌝ }
+// The answer once the rows are judged.
+fn after_rows(verdict: Verdict) -> Outcome
+    ensures { λ r. ⌜ r ≡ afterRows verdict ⌝ }
 {
-    if 1015 < length {
-        return CheckAnswer::LengthAboveLimit;
+    match verdict {
+        Verdict::AllSatisfied => Outcome::Done,
+        Verdict::Fails(row) => Outcome::Refused(Refusal::Unsatisfied(row)),
+    }
+}
+
+// The check of an assignment for a record of `size` bytes against a digest.
+pub fn check(size: u64, digest: &[u8], assignment: &[u8]) -> Outcome
+    ensures { λ r. ⌜ r ≡ checkAnswer size (now (digest .entry)) (now (assignment .entry)) ⌝ }
+{
+    if LONGEST < size {
+        return Outcome::Refused(Refusal::LengthAboveLimit);
     }
     if digest.len() != 32 {
-        return CheckAnswer::DigestNot32;
+        return Outcome::Refused(Refusal::DigestNot32);
     }
-    let bits = 8 * length;
+    let bits = 8 * size;
     if assignment.len() as u64 != 8 * wire_count(bits) {
-        return CheckAnswer::WrongLength;
+        return Outcome::Refused(Refusal::WrongLength);
     }
     if read(assignment, WireNumber(0)) != 1 {
-        return CheckAnswer::WireZero;
+        return Outcome::Refused(Refusal::WireZero);
     }
     if !digest_agrees(digest, assignment) {
-        return CheckAnswer::DigestWire;
+        return Outcome::Refused(Refusal::DigestWire);
     }
-    lowest_unsatisfied(bits, assignment)
+    after_rows(lowest_unsatisfied(bits, assignment))
 }

@@ -1,56 +1,49 @@
-// The wires of a block's words: the block itself, its expansion, and the pairs W'0 to W'63.
+// The wires of a block's expansion, and of the pairs W'0 to W'63.
 ghost use mathlib.Core.Path.{_≡_};
 ghost use Prim.Native.Nat.{ℕ, _+_, _*_, _<_, _≤_};
-ghost use lib.ListN.{getD, length, take};
+ghost use lib.ListN.{length, take};
 ghost use Rattle.assignment.specs.Wrote.{Wrote};
 ghost use Rattle.circuit.specs.Layout.{expansionWires, wordWires};
-ghost use Rattle.circuit.specs.Sequence.{beside, grid};
 ghost use Rattle.sm3.specs.Sm3.{P1, expanded, expansion, mixed, pairWord};
+ghost use Rattle.encoding.specs.Sequence.{beside, grid};
+ghost use Rattle.circuit.specs.Wires.{expansionWidth};
 use crate::wires::put_word;
+use circuit::wire::EXPANSION_WIDTH;
+use refusal::numbers::WireNumber;
 use sm3::words::p1;
 use sm3::words::rotate_left;
 
-// W0 to W15 on the 512 wires from w on.
-pub fn put_block_words(out: &mut [u8], w: usize, x: &[u32; 68])
-    requires { ⌜ 8 * (w + 512) ≤ length (now out) ⌝ }
-    ensures { λ _. ⌜ Wrote w 512 (grid 32 (λ (j : ℕ). wordWires (getD (now (x .entry)) j 0))) (now (out .entry)) (now (out .exit)) ⌝ }
-{
-    for j in 0..16 {
-        put_word(out, w + 32 * j, x[j]);
-    }
-}
-
 // q, P1(q) and Wj, from the words before it, on the 96 wires from w on.
-fn put_expanded(out: &mut [u8], w: usize, x: &[u32; 68], j: usize) -> u32
-    requires { ⌜ (16 ≤ j) × (j < 68) × (8 * (w + 96) ≤ length (now out)) ⌝ }
+fn put_expanded(out: &mut [u8], w: WireNumber, x: &[u32; 68], j: usize) -> u32
+    requires { ⌜ (16 ≤ j) × (j < 68) × (8 * (w .0 + expansionWidth) ≤ length (now out)) ⌝ }
     ensures { λ r. ⌜ r ≡ expanded (now (x .entry)) j ⌝ }
-    ensures { λ r. ⌜ Wrote w 96 (beside 32 (wordWires (mixed (now (x .entry)) j)) (beside 32 (wordWires (P1 (mixed (now (x .entry)) j))) (wordWires r))) (now (out .entry)) (now (out .exit)) ⌝ }
+    ensures { λ r. ⌜ Wrote (w .0) expansionWidth (beside 32 (wordWires (mixed (now (x .entry)) j)) (beside 32 (wordWires (P1 (mixed (now (x .entry)) j))) (wordWires r))) (now (out .entry)) (now (out .exit)) ⌝ }
 {
     let q = x[j - 16] ^ x[j - 9] ^ rotate_left(x[j - 3], 15);
     let p = p1(q);
     let r = p ^ rotate_left(x[j - 13], 7) ^ x[j - 6];
     put_word(out, w, q);
-    put_word(out, w + 32, p);
-    put_word(out, w + 64, r);
+    put_word(out, WireNumber(w.0 + 32), p);
+    put_word(out, WireNumber(w.0 + 64), r);
     r
 }
 
 // W16 to W67 with q and P1(q), from W0 to W15, on the 4,992 wires from w on and into `x`.
-pub fn put_expanded_words(out: &mut [u8], w: usize, x: &mut [u32; 68])
-    requires { ⌜ (length (now x) ≡ 68) × (8 * (w + 4992) ≤ length (now out)) ⌝ }
-    ensures { λ _. ⌜ ((bits : ℕ → ℕ) → take 16 (now (x .entry)) ≡ expansion bits 16 → (now (x .exit) ≡ expansion bits 68) × Wrote w 4992 (grid 96 (λ (j : ℕ). expansionWires (expansion bits 68) (16 + j))) (now (out .entry)) (now (out .exit))) ⌝ }
+pub fn put_expanded_words(out: &mut [u8], w: WireNumber, x: &mut [u32; 68])
+    requires { ⌜ (length (now x) ≡ 68) × (8 * (w .0 + 52 * expansionWidth) ≤ length (now out)) ⌝ }
+    ensures { λ _. ⌜ ((bits : ℕ → ℕ) → take 16 (now (x .entry)) ≡ expansion bits 16 → (now (x .exit) ≡ expansion bits 68) × Wrote (w .0) (52 * expansionWidth) (grid expansionWidth (λ (j : ℕ). expansionWires (expansion bits 68) (16 + j))) (now (out .entry)) (now (out .exit))) ⌝ }
 {
     for j in 0..52 {
-        x[16 + j] = put_expanded(out, w + 96 * j, x, 16 + j);
+        x[16 + j] = put_expanded(out, WireNumber(w.0 + EXPANSION_WIDTH * j as u64), x, 16 + j);
     }
 }
 
 // W'0 to W'63 on the 2,048 wires from w on.
-pub fn put_pairs(out: &mut [u8], w: usize, x: &[u32; 68])
-    requires { ⌜ 8 * (w + 2048) ≤ length (now out) ⌝ }
-    ensures { λ _. ⌜ Wrote w 2048 (grid 32 (λ (j : ℕ). wordWires (pairWord (now (x .entry)) j))) (now (out .entry)) (now (out .exit)) ⌝ }
+pub fn put_pairs(out: &mut [u8], w: WireNumber, x: &[u32; 68])
+    requires { ⌜ 8 * (w .0 + 2048) ≤ length (now out) ⌝ }
+    ensures { λ _. ⌜ Wrote (w .0) 2048 (grid 32 (λ (j : ℕ). wordWires (pairWord (now (x .entry)) j))) (now (out .entry)) (now (out .exit)) ⌝ }
 {
     for j in 0..64 {
-        put_word(out, w + 32 * j, x[j] ^ x[j + 4]);
+        put_word(out, WireNumber(w.0 + 32 * j as u64), x[j] ^ x[j + 4]);
     }
 }

@@ -6,6 +6,6 @@ pub mod expansion;
 pub mod produce;
 pub mod rounds;
 pub mod rows_check;
-pub mod seal;
-pub mod sums;
+pub mod satisfaction;
+pub mod sum;
 pub mod wires;

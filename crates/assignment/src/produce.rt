@@ -5,62 +5,64 @@ ghost use lib.ListN.{length};
 ghost use Rattle.assignment.specs.Produce.{produceAnswer, produceLeft};
 ghost use Rattle.assignment.specs.Wrote.{Wrote};
 ghost use Rattle.circuit.specs.Layout.{messageWires, wireCount, wireOf};
-ghost use Rattle.sm3.specs.Message.{bitOfBytes, blocks, message};
+ghost use Rattle.circuit.specs.Wires.{firstBlock, wiresPerBlock};
+ghost use Rattle.sm3.specs.Message.{blocks, digestOf, longest, message};
+ghost use Rattle.encoding.specs.Bits.{bitOfBytes};
 use crate::block::put_block;
 use crate::wires::put_entry;
 use crate::wires::put_state;
+use circuit::wire::DIGEST;
+use circuit::wire::START;
+use circuit::wire::block_first;
+use circuit::wire::wire_count;
+use refusal::numbers::WireNumber;
+use refusal::outcome::Outcome;
+use refusal::outcome::Refusal;
 use sm3::constants::rotated_constants;
 use sm3::constants::start_state;
-use sm3::message::hash;
+use sm3::message::LONGEST;
+use sm3::message::block_count;
 use sm3::message::message_words;
+use sm3::state::State;
 
-// The answer of `produce`.
-pub enum ProduceAnswer {
-    // The assignment is written.
-    Written,
-    // Refusal 2: the record is longer than 1,015 bytes.
-    LengthAboveLimit,
-    // Refusal 4: the buffer is shorter than 8 bytes a wire.
-    BufferTooShort,
-}
-
-// The message's blocks, one at a time, each with the state that the one before it left.
-fn put_message(out: &mut [u8], bytes: &[u8])
-    requires { ⌜ (length (now bytes) ≤ 1015) × (8 * wireCount (8 * length (now bytes)) ≤ length (now out)) ⌝ }
-    ensures { λ _. ⌜ Wrote 513 (22528 * blocks (8 * length (now (bytes .entry)))) (messageWires (message (8 * length (now (bytes .entry))) (bitOfBytes (now (bytes .entry))))) (now (out .entry)) (now (out .exit)) ⌝ }
+// The message's blocks, one at a time, each with the state that the one before it left, and the last one's: the digest.
+fn put_message(out: &mut [u8], bytes: &[u8]) -> State
+    requires { ⌜ (length (now bytes) ≤ longest) × (8 * wireCount (8 * length (now bytes)) ≤ length (now out)) ⌝ }
+    ensures { λ r. ⌜ r ≡ digestOf (8 * length (now (bytes .entry))) (bitOfBytes (now (bytes .entry))) ⌝ }
+    ensures { λ _. ⌜ Wrote firstBlock (wiresPerBlock * blocks (8 * length (now (bytes .entry)))) (messageWires (message (8 * length (now (bytes .entry))) (bitOfBytes (now (bytes .entry))))) (now (out .entry)) (now (out .exit)) ⌝ }
 {
-    let n = (bytes.len() + 8) / 64 + 1;
+    let n = block_count(8 * bytes.len() as u64);
     let t = rotated_constants();
     let mut v = start_state();
     for i in 0..n {
-        v = put_block(out, 513 + 22528 * i, v, message_words(bytes, i), &t);
+        v = put_block(out, block_first(i), v, message_words(bytes, i as usize), &t);
     }
+    v
 }
 
-// All wires of a record.
+// All wires of a record. The digest stands before the blocks that it comes from, so they are written from the last on.
 fn put_assignment(out: &mut [u8], bytes: &[u8])
-    requires { ⌜ (length (now bytes) ≤ 1015) × (8 * wireCount (8 * length (now bytes)) ≤ length (now out)) ⌝ }
+    requires { ⌜ (length (now bytes) ≤ longest) × (8 * wireCount (8 * length (now bytes)) ≤ length (now out)) ⌝ }
     ensures { λ _. ⌜ Wrote 0 (wireCount (8 * length (now (bytes .entry)))) (wireOf (8 * length (now (bytes .entry))) (bitOfBytes (now (bytes .entry)))) (now (out .entry)) (now (out .exit)) ⌝ }
 {
-    let digest = hash(bytes);
-    put_entry(out, 0, 1);
-    put_state(out, 1, digest);
-    put_state(out, 257, start_state());
-    put_message(out, bytes);
+    let digest = put_message(out, bytes);
+    put_state(out, WireNumber(START), start_state());
+    put_state(out, WireNumber(DIGEST), digest);
+    put_entry(out, WireNumber(0), 1);
 }
 
 // The assignment of a record of at most 1,015 bytes, into the first bytes of `out`.
-pub fn produce(bytes: &[u8], out: &mut [u8]) -> ProduceAnswer
+pub fn produce(bytes: &[u8], out: &mut [u8]) -> Outcome
     ensures { λ r. ⌜ r ≡ produceAnswer (length (now (bytes .entry))) (length (now (out .entry))) ⌝ }
     ensures { λ r. ⌜ now (out .exit) ≡ produceLeft r (now (bytes .entry)) (now (out .entry)) ⌝ }
 {
-    if 1015 < bytes.len() {
-        return ProduceAnswer::LengthAboveLimit;
+    if LONGEST < bytes.len() as u64 {
+        return Outcome::Refused(Refusal::LengthAboveLimit);
     }
-    let wires = 513 + 22528 * ((bytes.len() + 8) / 64 + 1);
-    if out.len() < 8 * wires {
-        return ProduceAnswer::BufferTooShort;
+    let wires = wire_count(8 * bytes.len() as u64);
+    if (out.len() as u64) < 8 * wires {
+        return Outcome::Refused(Refusal::BufferTooShort);
     }
     put_assignment(out, bytes);
-    ProduceAnswer::Written
+    Outcome::Done
 }

@@ -1,23 +1,20 @@
-// Entries written into a lent buffer from a wire on: one value, and the wires of a word, of a sum and of a state.
+// Entries written into a lent buffer from a wire on: one value, and the wires of a word, of words one after the other, and of a sum.
 ghost use mathlib.Core.Path.{_≡_};
 ghost use Prim.Native.Nat.{ℕ, _+_, _*_, _<_, _≤_};
-ghost use lib.ListN.{length};
+ghost use lib.ListN.{getD, length};
+ghost use Rattle.assignment.specs.Sum.{IsSum};
 ghost use Rattle.assignment.specs.Wrote.{Wrote};
 ghost use Rattle.circuit.specs.Layout.{stateWires, sumWires, wordWires};
-ghost use Rattle.sm3.specs.Sm3.{dropped};
+ghost use Rattle.encoding.specs.Sequence.{grid};
 ghost use Rattle.sm3.specs.Words.{bit};
+use crate::sum::Sum;
+use encoding::write::put_eight_bytes;
+use refusal::numbers::WireNumber;
 use sm3::state::State;
-
-// A sum's word, without what passes 2^32.
-pub fn low(s: u64) -> u32
-    ensures { λ r. ⌜ r ≡ dropped s ⌝ }
-{
-    (s % 4294967296) as u32
-}
 
 // Bit i of a word, from the highest. Said as a difference that might wrap, a bit tells the compiler nothing of its size, so
 // that it stores an entry's eight bytes at once; from `% 2` it makes three stores an entry, at twice the time.
-fn bit_of(x: u32, i: usize) -> u64
+fn bit_of(x: u32, i: u64) -> u64
     requires { ⌜ i < 32 ⌝ }
     ensures { λ r. ⌜ r ≡ bit i x ⌝ }
 {
@@ -26,52 +23,48 @@ fn bit_of(x: u32, i: usize) -> u64
 }
 
 // The entry of wire w: 8 bytes, the least first.
-pub fn put_entry(out: &mut [u8], w: usize, v: u64)
-    requires { ⌜ 8 * (w + 1) ≤ length (now out) ⌝ }
-    ensures { λ _. ⌜ Wrote w 1 (λ (k : ℕ). v) (now (out .entry)) (now (out .exit)) ⌝ }
+pub fn put_entry(out: &mut [u8], w: WireNumber, v: u64)
+    requires { ⌜ 8 * (w .0 + 1) ≤ length (now out) ⌝ }
+    ensures { λ _. ⌜ Wrote (w .0) 1 (λ (k : ℕ). v) (now (out .entry)) (now (out .exit)) ⌝ }
 {
-    let at = 8 * w;
-    out[at] = (v % 256) as u8;
-    out[at + 1] = (v / 256 % 256) as u8;
-    out[at + 2] = (v / 65536 % 256) as u8;
-    out[at + 3] = (v / 16777216 % 256) as u8;
-    out[at + 4] = (v / 4294967296 % 256) as u8;
-    out[at + 5] = (v / 1099511627776 % 256) as u8;
-    out[at + 6] = (v / 281474976710656 % 256) as u8;
-    out[at + 7] = (v / 72057594037927936 % 256) as u8;
+    put_eight_bytes(out, 8 * w.0 as usize, v);
 }
 
 // A word on the 32 wires from w on, the highest bit first.
-pub fn put_word(out: &mut [u8], w: usize, x: u32)
-    requires { ⌜ 8 * (w + 32) ≤ length (now out) ⌝ }
-    ensures { λ _. ⌜ Wrote w 32 (wordWires x) (now (out .entry)) (now (out .exit)) ⌝ }
+pub fn put_word(out: &mut [u8], w: WireNumber, x: u32)
+    requires { ⌜ 8 * (w .0 + 32) ≤ length (now out) ⌝ }
+    ensures { λ _. ⌜ Wrote (w .0) 32 (wordWires x) (now (out .entry)) (now (out .exit)) ⌝ }
 {
     for i in 0..32 {
-        put_entry(out, w + i, bit_of(x, i));
+        put_entry(out, WireNumber(w.0 + i), bit_of(x, i));
+    }
+}
+
+// The first n words on 32 wires each, from w on.
+pub fn put_words(out: &mut [u8], w: WireNumber, words: &[u32], n: usize)
+    requires { ⌜ (n ≤ length (now words)) × (8 * (w .0 + 32 * n) ≤ length (now out)) ⌝ }
+    ensures { λ _. ⌜ Wrote (w .0) (32 * n) (grid 32 (λ (j : ℕ). wordWires (getD (now (words .entry)) j 0))) (now (out .entry)) (now (out .exit)) ⌝ }
+{
+    for j in 0..n {
+        put_word(out, WireNumber(w.0 + 32 * j as u64), words[j]);
     }
 }
 
 // A sum's word and its 2 carries, the higher first, on the 34 wires from w on.
-pub fn put_sum(out: &mut [u8], w: usize, s: u64)
-    requires { ⌜ 8 * (w + 34) ≤ length (now out) ⌝ }
-    ensures { λ _. ⌜ Wrote w 34 (sumWires s) (now (out .entry)) (now (out .exit)) ⌝ }
+pub fn put_sum(out: &mut [u8], w: WireNumber, sum: Sum)
+    requires { ⌜ 8 * (w .0 + 34) ≤ length (now out) ⌝ }
+    ensures { λ _. ⌜ ((whole : ℕ) → IsSum sum whole → Wrote (w .0) 34 (sumWires whole) (now (out .entry)) (now (out .exit))) ⌝ }
 {
-    put_word(out, w, low(s));
-    put_entry(out, w + 32, s / 8589934592 % 2);
-    put_entry(out, w + 33, s / 4294967296 % 2);
+    put_word(out, w, sum.word);
+    put_entry(out, WireNumber(w.0 + 32), sum.carry / 2 % 2);
+    put_entry(out, WireNumber(w.0 + 33), sum.carry % 2);
 }
 
 // The words A to H on the 256 wires from w on.
-pub fn put_state(out: &mut [u8], w: usize, s: State)
-    requires { ⌜ 8 * (w + 256) ≤ length (now out) ⌝ }
-    ensures { λ _. ⌜ Wrote w 256 (stateWires s) (now (out .entry)) (now (out .exit)) ⌝ }
+pub fn put_state(out: &mut [u8], w: WireNumber, s: State)
+    requires { ⌜ 8 * (w .0 + 256) ≤ length (now out) ⌝ }
+    ensures { λ _. ⌜ Wrote (w .0) 256 (stateWires s) (now (out .entry)) (now (out .exit)) ⌝ }
 {
-    put_word(out, w, s.a);
-    put_word(out, w + 32, s.b);
-    put_word(out, w + 64, s.c);
-    put_word(out, w + 96, s.d);
-    put_word(out, w + 128, s.e);
-    put_word(out, w + 160, s.f);
-    put_word(out, w + 192, s.g);
-    put_word(out, w + 224, s.h);
+    let words = [s.a, s.b, s.c, s.d, s.e, s.f, s.g, s.h];
+    put_words(out, w, &words, 8);
 }

@@ -6,10 +6,10 @@ use borrow.Author.Count.{below-more, below-none}
 use borrow.Author.Needs.{needs}
 use Rattle.assignment.specs.Assignment.{entry}
 use Rattle.assignment.proofs.Acceptance.{same-iff}
-use Rattle.assignment.proofs.check.Laws.{differs}
-use Rattle.sm3.specs.Message.{bitOfBytes}
+use Rattle.assignment.proofs.check.Refusals.{differs}
 use Rattle.assignment.proofs.check.digest_agrees.Statement.{statement}
 use Rattle.assignment.proofs.check.digest_agrees.Tie as tie
+use Rattle.encoding.specs.Bits.{bitOfBytes}
 
 abbrev Inv-loop : tie.InvT-loop
 Inv-loop digest assignment k₀ k = (k ≤ 256) × ((i : ℕ) → i < k → entry assignment (1 + i) ≡ bitOfBytes digest i)
@@ -26,8 +26,8 @@ add-t6 c = search needs
 read-requires : tie.Need-read-requires Inv-loop μ-loop
 read-requires c κs = search needs
 
-digest-bit-requires : tie.Need-digest-bit-requires Inv-loop μ-loop
-digest-bit-requires c κs = search needs
+bit-at-requires : tie.Need-bit-at-requires Inv-loop μ-loop
+bit-at-requires c κs = search needs
 
 returns : tie.Need-returns Inv-loop μ-loop
 returns c =
@@ -35,7 +35,7 @@ returns c =
     sym
     (differs 256 (λ k. entry (a .assignment .now) (1 + k)) (bitOfBytes (a .digest .now))
     (c .before .before .before .before .loop .k) (c .before .before .before .loop-test .taken)
-    (λ e. c .if1 .taken (c .before .before .read .ensures ∙ e ∙ sym (c .before .digest-bit .ensures))))
+    (λ e. c .if1 .taken (c .before .before .read .ensures ∙ e ∙ sym (c .before .bit-at .ensures))))
 
 add-k : tie.Need-add-k Inv-loop μ-loop
 add-k c = search needs
@@ -47,7 +47,7 @@ loop-again : tie.Need-loop-again Inv-loop μ-loop
 loop-again c = (
   omega arith,
   below-more _ _ (c .before .before .before .before .loop .inv .1)
-      (sym (c .before .before .read .ensures) ∙ c .if1 .left ∙ c .before .digest-bit .ensures),
+      (sym (c .before .before .read .ensures) ∙ c .if1 .left ∙ c .before .bit-at .ensures),
 )
 
 returns-2 : tie.Need-returns-2 Inv-loop μ-loop
@@ -66,7 +66,7 @@ digest-agrees-spec =
     loop-holds
     add-t6
     read-requires
-    digest-bit-requires
+    bit-at-requires
     returns
     add-k
     loop-less

@@ -1,11 +1,11 @@
 -- The code is the definition of q and Wj, with what the calls ensure put in, and the three words are written one after the other.
-use mathlib.Core.List.{List}
-use mathlib.Core.Path.{_≡_, _∙_, ap, ap₂, refl}
 use Prim.Native.Nat.{ℕ, _+_, _-_}
-use native.Mathlib.Omega.{arith}
 use borrow.Author.Needs.{needs}
 use denote.Ref.{now}
 use lib.ListN.{getD}
+use mathlib.Core.List.{List}
+use mathlib.Core.Path.{_≡_, _∙_, ap, ap₂, refl}
+use native.Mathlib.Omega.{arith}
 use Rattle.assignment.proofs.Writes.{wrote-as, wrote-then}
 use Rattle.circuit.specs.Layout.{wordWires}
 use Rattle.sm3.specs.Sm3.{P1, _⊕_, expanded, mixed}
@@ -80,14 +80,14 @@ element-copy-out-r c = search needs
 put-word-requires : tie.Need-put-word-requires
 put-word-requires c κs = search needs
 
-add-put-word : tie.Need-add-put-word
-add-put-word c = search needs
+add-t34 : tie.Need-add-t34
+add-t34 c = search needs
 
 put-word-requires-2 : tie.Need-put-word-requires-2
 put-word-requires-2 c κs = search needs
 
-add-put-word-2 : tie.Need-add-put-word-2
-add-put-word-2 c = search needs
+add-t34-2 : tie.Need-add-t34-2
+add-t34-2 c = search needs
 
 put-word-requires-3 : tie.Need-put-word-requires-3
 put-word-requires-3 c κs = search needs
@@ -98,18 +98,19 @@ same-length c = search needs
 returns : tie.Need-returns
 returns c =
     let p3 = c .before .before in
-    let p2 = p3 .before .before .before .before in
-    let p1 = p2 .before .before .before .before in
+    let p2 = p3 .before .before .before .before .before in
+    let p1 = p2 .before .before .before .before .before in
     let rotated = p1 .before .before .before in
     let mixing = rotated .before .before in
     let a = mixing .before .before .before .before .before .before .args in
     let x = now (a .x) in
+    let w = a .w .0 in
     let q : mixing .before .rotate-left .result ≡ rotateLeft 15 (getD x (a .j - 3) 0) = mixing .before .rotate-left .ensures in
     let mix = mixed-is x (a .j) q in
     let p = mixing .p1 .ensures ∙ ap P1 mix in (
       expanded-is x (a .j) p (rotated .rotate-left2 .ensures),
-      wrote-then (a .w + 32) refl (wrote-as (ap wordWires mix) (p1 .put-word .ensures))
-          (wrote-then (a .w + 64) (omega arith) (wrote-as (ap wordWires p) (p2 .put-word2 .ensures)) (p3 .put-word3 .ensures)),
+      wrote-then (w + 32) refl (wrote-as (ap wordWires mix) (p1 .put-word .ensures))
+          (wrote-then (w + 64) (omega arith) (wrote-as (ap wordWires p) (p2 .put-word2 .ensures)) (p3 .put-word3 .ensures)),
     )
 
 pub put-expanded-spec : {M : Type 1} → statement M
@@ -135,9 +136,9 @@ put-expanded-spec =
     mul-r
     element-copy-out-r
     put-word-requires
-    add-put-word
+    add-t34
     put-word-requires-2
-    add-put-word-2
+    add-t34-2
     put-word-requires-3
     same-length
     returns)

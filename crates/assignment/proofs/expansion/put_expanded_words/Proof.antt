@@ -1,24 +1,25 @@
 -- Before turn j the array has the words before W(16+j), and their wires are written. Wj and q read only words before it, so
 -- they are those of the whole expansion.
-use mathlib.Core.List.{List}
-use mathlib.Core.Path.{_≡_, _∙_, ap, ap₂, refl, sym}
 use Prim.Native.Nat.{ℕ, _+_, _-_, _*_, _<_, _≤_}
-use native.Mathlib.Omega.{arith}
 use borrow.Author.Needs.{needs}
 use lib.ListN.{getD, length, length-set, take}
 use lib.Seq.{take-all}
-use Rattle.assignment.specs.Wrote.{Wrote}
+use mathlib.Core.List.{List}
+use mathlib.Core.Path.{_≡_, _∙_, ap, ap₂, refl, sym}
+use native.Mathlib.Omega.{arith}
 use Rattle.assignment.proofs.Writes.{length-wrote, wrote-as, wrote-none, wrote-row}
+use Rattle.assignment.specs.Wrote.{Wrote}
 use Rattle.circuit.specs.Layout.{expansionWires, wordWires}
-use Rattle.circuit.specs.Sequence.{beside, grid}
-use Rattle.sm3.proofs.expansion.Laws.{W-expanded, getD-expansion, mixed-take, store-expanded, take-expansion}
+use Rattle.circuit.specs.Wires.{expansionWidth}
+use Rattle.encoding.specs.Sequence.{beside, grid}
+use Rattle.sm3.proofs.expansion.FirstWords.{W-expanded, getD-expansion, mixed-take, store-expanded, take-expansion}
 use Rattle.sm3.specs.Sm3.{P1, expanded, expansion, mixed}
 use Rattle.assignment.proofs.expansion.put_expanded_words.Statement.{statement}
 use Rattle.assignment.proofs.expansion.put_expanded_words.Tie as tie
 
 -- the wires of the expansion
 abbrev words : (ℕ → ℕ) → ℕ → ℕ
-words bits = grid 96 (λ j. expansionWires (expansion bits 68) (16 + j))
+words bits = grid expansionWidth (λ j. expansionWires (expansion bits 68) (16 + j))
 
 -- q, P1(q) and Wj are those of the whole expansion
 expanded-wires : (bits : ℕ → ℕ) (x : List ℕ) (j : ℕ) {r : ℕ} → 16 ≤ j → j < 68 → take j x ≡ expansion bits j → r ≡ expanded x j
@@ -34,7 +35,7 @@ expanded-wires bits x j h l e r =
 abbrev Inv-loop : tie.InvT-loop
 Inv-loop out₀ w x₀ j₀ out x j =
     (j ≤ 52) × (length x ≡ 68) × (length out ≡ length out₀)
-    × ((bits : ℕ → ℕ) → take 16 x₀ ≡ expansion bits 16 → (take (16 + j) x ≡ expansion bits (16 + j)) × Wrote w (96 * j) (words bits) out₀ out)
+    × ((bits : ℕ → ℕ) → take 16 x₀ ≡ expansion bits 16 → (take (16 + j) x ≡ expansion bits (16 + j)) × Wrote (w .0) (expansionWidth * j) (words bits) out₀ out)
 
 abbrev μ-loop : tie.MeasureT-loop
 μ-loop out₀ w x₀ j₀ out x j = 52 - j
@@ -42,14 +43,14 @@ abbrev μ-loop : tie.MeasureT-loop
 loop-holds : tie.Need-loop-holds Inv-loop μ-loop
 loop-holds c = (omega arith, c .before .pre .0, refl, λ bits e. (e, wrote-none _ _ _))
 
-mul-put-expanded : tie.Need-mul-put-expanded Inv-loop μ-loop
-mul-put-expanded c = search needs
+mul-t10 : tie.Need-mul-t10 Inv-loop μ-loop
+mul-t10 c = search needs
+
+add-t11 : tie.Need-add-t11 Inv-loop μ-loop
+add-t11 c = search needs
 
 add-put-expanded : tie.Need-add-put-expanded Inv-loop μ-loop
 add-put-expanded c = search needs
-
-add-put-expanded-2 : tie.Need-add-put-expanded-2 Inv-loop μ-loop
-add-put-expanded-2 c = search needs
 
 put-expanded-requires : tie.Need-put-expanded-requires Inv-loop μ-loop
 put-expanded-requires c κs = omega arith
@@ -71,7 +72,7 @@ loop-less c = search needs
 
 loop-again : tie.Need-loop-again Inv-loop μ-loop
 loop-again c =
-    let l = c .before .before .before .before .before .before in
+    let l = c .before .before .before .before .before .before .before in
     let j = l .loop .j in
     let x = l .loop .x in
     let put = c .before .before .put-expanded in (
@@ -105,9 +106,9 @@ put-expanded-words-spec =
     Inv-loop
     μ-loop
     loop-holds
-    mul-put-expanded
+    mul-t10
+    add-t11
     add-put-expanded
-    add-put-expanded-2
     put-expanded-requires
     add-x
     mul-x

@@ -1,13 +1,13 @@
 -- Before turn j the wires of the first j pairs are written; a turn writes the next row of the grid.
+use Prim.Native.Nat.{ℕ, _-_, _*_, _≤_}
+use borrow.Author.Needs.{needs}
 use mathlib.Core.List.{List}
 use mathlib.Core.Path.{_≡_, refl}
-use Prim.Native.Nat.{ℕ, _-_, _*_, _≤_}
 use native.Mathlib.Omega.{arith}
-use borrow.Author.Needs.{needs}
-use Rattle.assignment.specs.Wrote.{Wrote}
 use Rattle.assignment.proofs.Writes.{length-wrote, wrote-none, wrote-row}
+use Rattle.assignment.specs.Wrote.{Wrote}
 use Rattle.circuit.specs.Layout.{wordWires}
-use Rattle.circuit.specs.Sequence.{grid}
+use Rattle.encoding.specs.Sequence.{grid}
 use Rattle.sm3.specs.Sm3.{pairWord}
 use Rattle.assignment.proofs.expansion.put_pairs.Statement.{statement}
 use Rattle.assignment.proofs.expansion.put_pairs.Tie as tie
@@ -17,7 +17,7 @@ abbrev pairs : List ℕ → ℕ → ℕ
 pairs x = grid 32 (λ j. wordWires (pairWord x j))
 
 abbrev Inv-loop : tie.InvT-loop
-Inv-loop out₀ w x j₀ out j = (j ≤ 64) × Wrote w (32 * j) (pairs x) out₀ out
+Inv-loop out₀ w x j₀ out j = (j ≤ 64) × Wrote (w .0) (32 * j) (pairs x) out₀ out
 
 abbrev μ-loop : tie.MeasureT-loop
 μ-loop out₀ w x j₀ out j = 64 - j
@@ -25,8 +25,17 @@ abbrev μ-loop : tie.MeasureT-loop
 loop-holds : tie.Need-loop-holds Inv-loop μ-loop
 loop-holds c = (omega arith, wrote-none _ _ _)
 
+mul-t10 : tie.Need-mul-t10 Inv-loop μ-loop
+mul-t10 c = search needs
+
+add-t11 : tie.Need-add-t11 Inv-loop μ-loop
+add-t11 c = search needs
+
 mul-put-word : tie.Need-mul-put-word Inv-loop μ-loop
 mul-put-word c = search needs
+
+element-copy-out-put-word : tie.Need-element-copy-out-put-word Inv-loop μ-loop
+element-copy-out-put-word c = search needs
 
 add-put-word : tie.Need-add-put-word Inv-loop μ-loop
 add-put-word c = search needs
@@ -34,20 +43,11 @@ add-put-word c = search needs
 mul-put-word-2 : tie.Need-mul-put-word-2 Inv-loop μ-loop
 mul-put-word-2 c = search needs
 
-element-copy-out-put-word : tie.Need-element-copy-out-put-word Inv-loop μ-loop
-element-copy-out-put-word c = search needs
-
-add-put-word-2 : tie.Need-add-put-word-2 Inv-loop μ-loop
-add-put-word-2 c = search needs
-
-mul-put-word-3 : tie.Need-mul-put-word-3 Inv-loop μ-loop
-mul-put-word-3 c = search needs
-
 element-copy-out-put-word-2 : tie.Need-element-copy-out-put-word-2 Inv-loop μ-loop
 element-copy-out-put-word-2 c = search needs
 
 put-word-requires : tie.Need-put-word-requires Inv-loop μ-loop
-put-word-requires c κs = omega (arith, length-wrote (c .before .before .before .before .loop .inv .1))
+put-word-requires c κs = omega (arith, length-wrote (c .before .before .before .before .before .loop .inv .1))
 
 add-j : tie.Need-add-j Inv-loop μ-loop
 add-j c = search needs
@@ -58,7 +58,7 @@ loop-less c = search needs
 loop-again : tie.Need-loop-again Inv-loop μ-loop
 unfolding pairWord
 loop-again c =
-    let l = c .before .before .before .before .before .before .before in
+    let l = c .before .before .before .before .before .before .before .before in
     let x = l .before .before .args .x .now in
     (omega arith, wrote-row (λ j. wordWires (pairWord x j)) (l .loop .j) _ refl (l .loop .inv .1) (c .before .before .put-word .ensures))
 
@@ -77,12 +77,12 @@ put-pairs-spec =
     Inv-loop
     μ-loop
     loop-holds
+    mul-t10
+    add-t11
     mul-put-word
+    element-copy-out-put-word
     add-put-word
     mul-put-word-2
-    element-copy-out-put-word
-    add-put-word-2
-    mul-put-word-3
     element-copy-out-put-word-2
     put-word-requires
     add-j

@@ -1,19 +1,20 @@
--- Before block i the state is what the chain of the message's blocks has come to, and the wires of the blocks before it are
--- written. The bytes and the bits count the same blocks.
-use mathlib.Core.List.{List}
-use mathlib.Core.Path.{_≡_, _∙_, ap, refl, sym}
+-- Before block i the state is what the message's blocks so far have come to, and their wires are written.
 use Prim.Native.Nat.{ℕ, _+_, _-_, _*_, _≤_}
-use native.Mathlib.Numerals.{add-one}
-use native.Mathlib.Omega.{arith}
 use borrow.Author.Needs.{needs}
 use lib.ListN.{length}
-use Rattle.assignment.specs.Wrote.{Wrote}
+use mathlib.Core.List.{List}
+use mathlib.Core.Path.{_≡_, _∙_, ap, sym}
+use native.Mathlib.Numerals.{add-one}
+use native.Mathlib.Omega.{arith}
 use Rattle.assignment.proofs.Writes.{length-wrote, wrote-as, wrote-none, wrote-row}
+use Rattle.assignment.specs.Wrote.{Wrote}
 use Rattle.circuit.specs.Layout.{blockWires, messageWires, wireCount}
-use Rattle.circuit.specs.Sequence.{grid}
+use Rattle.circuit.specs.Wires.{firstBlock, wiresPerBlock}
+use Rattle.encoding.proofs.Bits.{bit-of-bytes-lt}
+use Rattle.encoding.specs.Bits.{bitOfBytes}
+use Rattle.encoding.specs.Sequence.{grid}
 use Rattle.sm3.proofs.Bounds.{message-lt}
-use Rattle.sm3.proofs.Bytes.{bit-of-bytes-lt}
-use Rattle.sm3.specs.Message.{bitOfBytes, blockBits, blocks, chainingValue, message}
+use Rattle.sm3.specs.Message.{blockBits, blocks, chainingValue, digestOf, message}
 use Rattle.sm3.specs.Sm3.{block}
 use Rattle.assignment.proofs.produce.put_message.Statement.{statement}
 use Rattle.assignment.proofs.produce.put_message.Tie as tie
@@ -23,20 +24,20 @@ abbrev messageOf : List ℕ → ℕ → ℕ
 messageOf bytes = message (8 * length bytes) (bitOfBytes bytes)
 
 abbrev wires : (ℕ → ℕ) → ℕ → ℕ
-wires m = grid 22528 (λ i. blockWires (blockBits m i) (chainingValue m i))
+wires m = grid wiresPerBlock (λ i. blockWires (blockBits m i) (chainingValue m i))
 
 abbrev Inv-loop : tie.InvT-loop
 Inv-loop out₀ bytes n t v₀ i₀ out v i =
-    (i ≤ n) × (v ≡ chainingValue (messageOf bytes) i) × Wrote 513 (22528 * i) (wires (messageOf bytes)) out₀ out
+    (i ≤ n) × (v ≡ chainingValue (messageOf bytes) i) × Wrote firstBlock (wiresPerBlock * i) (wires (messageOf bytes)) out₀ out
 
 abbrev μ-loop : tie.MeasureT-loop
 μ-loop out₀ bytes n t v₀ i₀ out v i = n - i
 
-add-n : tie.Need-add-n Inv-loop μ-loop
-add-n c = search needs
+mul-block-count : tie.Need-mul-block-count Inv-loop μ-loop
+mul-block-count c = search needs
 
-add-n-2 : tie.Need-add-n-2 Inv-loop μ-loop
-add-n-2 c = search needs
+block-count-requires : tie.Need-block-count-requires Inv-loop μ-loop
+block-count-requires c κs = search needs
 
 rotated-constants-requires : tie.Need-rotated-constants-requires Inv-loop μ-loop
 rotated-constants-requires c κs = search needs
@@ -48,11 +49,9 @@ loop-holds : tie.Need-loop-holds Inv-loop μ-loop
 unfolding chainingValue
 loop-holds c = (omega arith, c .start-state .ensures, wrote-none _ _ _)
 
-mul-put-block : tie.Need-mul-put-block Inv-loop μ-loop
-mul-put-block c = search needs
-
-add-put-block : tie.Need-add-put-block Inv-loop μ-loop
-add-put-block c = search needs
+block-first-requires : tie.Need-block-first-requires Inv-loop μ-loop
+unfolding blocks
+block-first-requires c κs = omega arith
 
 message-words-requires : tie.Need-message-words-requires Inv-loop μ-loop
 unfolding blocks
@@ -61,10 +60,10 @@ message-words-requires c κs = search needs
 put-block-requires : tie.Need-put-block-requires Inv-loop μ-loop
 unfolding blocks wireCount
 put-block-requires c κs =
-    let l = c .before .before .before .before in
+    let l = c .before .before .before .before .before in
     let constants = l .before .before in
-    let start = constants .before .before .before in
-    (constants .rotated-constants .ensures, omega (arith, start, length-wrote (l .loop .inv .2)))
+    let start = constants .before .before .before .before in
+    (constants .rotated-constants .ensures, omega (arith, start, length-wrote (l .loop .inv .2), c .before .before .block-first .ensures .0))
 
 add-i : tie.Need-add-i Inv-loop μ-loop
 add-i c = search needs
@@ -75,8 +74,8 @@ loop-less c = search needs
 loop-again : tie.Need-loop-again Inv-loop μ-loop
 unfolding blockBits chainingValue
 loop-again c =
-    let l = c .before .before .before .before .before .before .before in
-    let bytes = l .before .before .before .before .before .args .bytes .now in
+    let l = c .before .before .before .before .before .before .before .before in
+    let bytes = l .before .before .before .before .before .before .args .bytes .now in
     let m = messageOf bytes in
     let i = l .loop .i in
     let put = c .before .before .put-block .ensures (blockBits m i)
@@ -84,7 +83,7 @@ loop-again c =
     (c .before .before .before .before .message-words .ensures .1) in (
       omega arith,
       put .0 ∙ ap (block (blockBits m i)) (l .loop .inv .1) ∙ ap (chainingValue m) (sym (add-one i)),
-      wrote-row (λ i. blockWires (blockBits m i) (chainingValue m i)) i _ refl (l .loop .inv .2)
+      wrote-row (λ i. blockWires (blockBits m i) (chainingValue m i)) i _ (c .before .before .before .before .before .block-first .ensures .0) (l .loop .inv .2)
           (wrote-as (ap (blockWires (blockBits m i)) (l .loop .inv .1)) (put .1)),
     )
 
@@ -92,12 +91,12 @@ same-length : tie.Need-same-length Inv-loop μ-loop
 same-length c = length-wrote (c .before .loop .inv .2)
 
 returns : tie.Need-returns Inv-loop μ-loop
-unfolding messageWires blocks
+unfolding digestOf messageWires
 returns c =
     let l = c .before .loop in
-    let bytes = c .before .before .before .before .before .before .args .bytes .now in
+    let bytes = c .before .before .before .before .before .before .before .args .bytes .now in
     let all : l .i ≡ blocks (8 * length bytes) = omega arith in
-    rw all at (l .inv .2)
+    (l .inv .1 ∙ ap (chainingValue (messageOf bytes)) all, rw all at (l .inv .2))
 
 pub put-message-spec : {M : Type 1} → statement M
 put-message-spec =
@@ -105,13 +104,12 @@ put-message-spec =
     (tie.spec
     Inv-loop
     μ-loop
-    add-n
-    add-n-2
+    mul-block-count
+    block-count-requires
     rotated-constants-requires
     start-state-requires
     loop-holds
-    mul-put-block
-    add-put-block
+    block-first-requires
     message-words-requires
     put-block-requires
     add-i

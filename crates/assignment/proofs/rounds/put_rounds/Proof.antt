@@ -1,16 +1,17 @@
 -- Before turn j the state is what j rounds have made of v, and the wires of these rounds are written.
-use mathlib.Core.List.{List}
-use mathlib.Core.Path.{_≡_, _∙_, ap, refl, sym}
 use Prim.Native.Nat.{ℕ, _+_, _-_, _*_, _≤_}
-use native.Mathlib.Omega.{arith}
 use borrow.Author.Needs.{needs}
 use denote.Ref.{now}
 use lib.ListN.{getD}
-use Rattle.assignment.specs.Wrote.{Wrote}
+use mathlib.Core.List.{List}
+use mathlib.Core.Path.{_≡_, _∙_, ap, refl, sym}
+use native.Mathlib.Omega.{arith}
 use Rattle.assignment.proofs.Writes.{length-wrote, wrote-as, wrote-none, wrote-row}
+use Rattle.assignment.specs.Wrote.{Wrote}
 use Rattle.circuit.specs.Layout.{roundWires}
-use Rattle.circuit.specs.Sequence.{grid}
-use Rattle.sm3.proofs.rounds.Laws.{rounds-next}
+use Rattle.circuit.specs.Wires.{roundWidth}
+use Rattle.encoding.specs.Sequence.{grid}
+use Rattle.sm3.proofs.rounds.FirstRounds.{rounds-next}
 use Rattle.sm3.specs.Sm3.{pairWord, roundOf, rounds}
 use Rattle.sm3.specs.declared.state.State.{State}
 use Rattle.assignment.proofs.rounds.put_rounds.Statement.{statement}
@@ -23,10 +24,10 @@ one-more x v j e d = e ∙ ap (roundOf j (getD x j 0) (pairWord x j)) d ∙ sym 
 
 -- the wires of all rounds
 abbrev wires : List ℕ → State → ℕ → ℕ
-wires x v = grid 230 (λ j. roundWires x j (rounds x v j))
+wires x v = grid roundWidth (λ j. roundWires x j (rounds x v j))
 
 abbrev Inv-loop : tie.InvT-loop
-Inv-loop out₀ w x t s₀ j₀ out s j = (j ≤ 64) × (s ≡ rounds x s₀ j) × Wrote w (230 * j) (wires x s₀) out₀ out
+Inv-loop out₀ w x t s₀ j₀ out s j = (j ≤ 64) × (s ≡ rounds x s₀ j) × Wrote (w .0) (roundWidth * j) (wires x s₀) out₀ out
 
 abbrev μ-loop : tie.MeasureT-loop
 μ-loop out₀ w x t s₀ j₀ out s j = 64 - j
@@ -35,15 +36,15 @@ loop-holds : tie.Need-loop-holds Inv-loop μ-loop
 unfolding rounds
 loop-holds c = (omega arith, refl, wrote-none _ _ _)
 
-mul-put-round : tie.Need-mul-put-round Inv-loop μ-loop
-mul-put-round c = search needs
+mul-t12 : tie.Need-mul-t12 Inv-loop μ-loop
+mul-t12 c = search needs
 
-add-put-round : tie.Need-add-put-round Inv-loop μ-loop
-add-put-round c = search needs
+add-t13 : tie.Need-add-t13 Inv-loop μ-loop
+add-t13 c = search needs
 
 put-round-requires : tie.Need-put-round-requires Inv-loop μ-loop
 put-round-requires c κs =
-    let l = c .before .before in
+    let l = c .before .before .before in
     (omega arith, l .before .before .pre .0, omega (arith, length-wrote (l .loop .inv .2)))
 
 add-j : tie.Need-add-j Inv-loop μ-loop
@@ -54,7 +55,7 @@ loop-less c = search needs
 
 loop-again : tie.Need-loop-again Inv-loop μ-loop
 loop-again c =
-    let l = c .before .before .before .before .before in
+    let l = c .before .before .before .before .before .before in
     let a = l .before .before .args in
     let j = l .loop .j in
     let x = now (a .x) in
@@ -81,8 +82,8 @@ put-rounds-spec =
     Inv-loop
     μ-loop
     loop-holds
-    mul-put-round
-    add-put-round
+    mul-t12
+    add-t13
     put-round-requires
     add-j
     loop-less

@@ -9,17 +9,19 @@ use borrow.Author.Tests.{not-false, not-true}
 use lib.ListN.{length}
 use Rattle.assignment.specs.Assignment.{entry}
 use Rattle.assignment.specs.Check.{lowest}
-use Rattle.assignment.proofs.rows_check.Laws.{judged, lent, lowest-end, lowest-fails, lowest-holds}
-use Rattle.circuit.proofs.PlaceRange.{in-record}
+use Rattle.assignment.proofs.rows_check.RowByRow.{judged, lent, lowest-end, lowest-fails, lowest-holds}
+use Rattle.circuit.proofs.place.PlaceRange.{in-record}
 use Rattle.circuit.specs.Circuit.{rowAt}
 use Rattle.circuit.specs.Places.{placeAt, rowCount}
 use Rattle.circuit.specs.Ranges.{InRecord}
+use Rattle.circuit.specs.Terms.{termRoom}
+use Rattle.encoding.proofs.Written.{length-written}
 use Rattle.assignment.proofs.rows_check.lowest_unsatisfied.Statement.{statement}
 use Rattle.assignment.proofs.rows_check.lowest_unsatisfied.Tie as tie
 
 abbrev Inv-rows : tie.InvT-rows
 Inv-rows bits assignment count terms₀ place₀ k₀ terms place k =
-    (k < count) × (length terms ≡ 326) × (place ≡ placeAt bits k)
+    (k < count) × (length terms ≡ termRoom) × (place ≡ placeAt bits k)
     × (lowest (entry assignment) (rowAt bits) 0 count ≡ lowest (entry assignment) (rowAt bits) k (count - k))
 
 abbrev μ-rows : tie.MeasureT-rows
@@ -29,12 +31,11 @@ row-count-requires : tie.Need-row-count-requires Inv-rows μ-rows
 row-count-requires c κs = search needs
 
 place-of-requires : tie.Need-place-of-requires Inv-rows μ-rows
-unfolding rowCount
-place-of-requires c κs = omega arith
+place-of-requires c κs = search needs
 
 rows-holds : tie.Need-rows-holds Inv-rows μ-rows
 unfolding rowCount
-rows-holds c = (omega arith, refl, c .place-of .ensures .0, ap (lowest _ _ 0) (sym (sub-zero _)))
+rows-holds c = (omega arith, refl, c .place-of .ensures, ap (lowest _ _ 0) (sym (sub-zero _)))
 
 slice-aggregate-place-terms : tie.Need-slice-aggregate-place-terms Inv-rows μ-rows
 slice-aggregate-place-terms c = sym (c .before .rows .inv .1)
@@ -75,7 +76,7 @@ rows-again c =
     let inv = filled .before .before .rows .inv in
     let row = judged _ _ _ (inv .2) _ _ _ (filled .place-terms .ensures) _ _ (tested .satisfied .ensures) in (
       omega arith,
-      filled .place-terms .ensures .kept ∙ inv .1,
+      length-written (filled .place-terms .ensures .written) ∙ inv .1,
       c .next-place .ensures,
       inv .3 ∙ lowest-holds _ _ _ _ (omega arith) (sym row ∙ not-false _ (c .before .before .if1 .left)),
     )

@@ -1,16 +1,16 @@
 -- Before turn i the first i bits are written; a turn writes the next.
-use mathlib.Core.Path.{_≡_, refl}
 use Prim.Native.Nat.{_-_, _≤_}
-use native.Mathlib.Omega.{arith}
 use borrow.Author.Needs.{needs}
-use Rattle.assignment.specs.Wrote.{Wrote}
+use mathlib.Core.Path.{_≡_, refl}
+use native.Mathlib.Omega.{arith}
 use Rattle.assignment.proofs.Writes.{length-wrote, wrote-next, wrote-none}
+use Rattle.assignment.specs.Wrote.{Wrote}
 use Rattle.circuit.specs.Layout.{wordWires}
 use Rattle.assignment.proofs.wires.put_word.Statement.{statement}
 use Rattle.assignment.proofs.wires.put_word.Tie as tie
 
 abbrev Inv-loop : tie.InvT-loop
-Inv-loop out₀ w x i₀ out i = (i ≤ 32) × Wrote w i (wordWires x) out₀ out
+Inv-loop out₀ w x i₀ out i = (i ≤ 32) × Wrote (w .0) i (wordWires x) out₀ out
 
 abbrev μ-loop : tie.MeasureT-loop
 μ-loop out₀ w x i₀ out i = 32 - i
@@ -18,14 +18,14 @@ abbrev μ-loop : tie.MeasureT-loop
 loop-holds : tie.Need-loop-holds Inv-loop μ-loop
 loop-holds c = (omega arith, wrote-none _ _ _)
 
-add-put-entry : tie.Need-add-put-entry Inv-loop μ-loop
-add-put-entry c = search needs
+add-t9 : tie.Need-add-t9 Inv-loop μ-loop
+add-t9 c = search needs
 
 bit-of-requires : tie.Need-bit-of-requires Inv-loop μ-loop
 bit-of-requires c κs = search needs
 
 put-entry-requires : tie.Need-put-entry-requires Inv-loop μ-loop
-put-entry-requires c κs = omega (arith, length-wrote (c .before .before .before .loop .inv .1))
+put-entry-requires c κs = omega (arith, length-wrote (c .before .before .before .before .loop .inv .1))
 
 add-i : tie.Need-add-i Inv-loop μ-loop
 add-i c = search needs
@@ -38,7 +38,7 @@ unfolding wordWires
 loop-again c =
     let put = c .before .before in
     let bit = put .before in
-    let l = bit .before .before .before in
+    let l = bit .before .before .before .before in
     (omega arith, wrote-next _ refl (bit .bit-of .ensures) (l .loop .inv .1) (put .put-entry .ensures))
 
 same-length : tie.Need-same-length Inv-loop μ-loop
@@ -56,7 +56,7 @@ put-word-spec =
     Inv-loop
     μ-loop
     loop-holds
-    add-put-entry
+    add-t9
     bit-of-requires
     put-entry-requires
     add-i
