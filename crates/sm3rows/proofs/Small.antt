@@ -3,27 +3,37 @@
 use mathlib.Core.Bool.{Bool, cond, false, true}
 use mathlib.Core.List.{List}
 use mathlib.Core.Path.{_≡_, refl}
-use Prim.Native.Nat.{ℕ, _*_, _<_, _≤_}
+use Prim.Native.Nat.{ℕ, _*_, _<_, _^_}
 use native.Mathlib.Omega.{arith}
-use borrow.Author.Tests.{leb-false, ltb-false}
-use lib.Dec.{leb, ltb}
+use borrow.Author.Tests.{leb-false}
+use lib.Dec.{leb, lit<, ltb}
 use lib.ListN.{length-append}
-use Rattle.assignment.proofs.Acceptance.{unsatisfied-lowest}
+use Rattle.assignment.proofs.Acceptance.{in-range, unsatisfied-lowest}
 use Rattle.assignment.specs.Check.{checkAnswer}
-use Rattle.assignment.specs.declared.check.CheckAnswer.{CheckAnswer}
-use Rattle.assignment.specs.declared.check.CheckAnswer.the-variants.{Accepted, DigestNot32, DigestWire, LengthAboveLimit, Unsatisfied, WireZero, WrongLength}
-use Rattle.circuit.proofs.Shape.{shape}
+use Rattle.circuit.proofs.shape.Shape.{shape}
 use Rattle.circuit.specs.Circuit.{rowAt}
 use Rattle.circuit.specs.Places.{rowCount}
-use Rattle.circuit.specs.RowAnswer.{counted, rowAnswer}
+use Rattle.circuit.specs.RowAnswer.{counted, rowAnswer, rowBytes}
 use Rattle.circuit.specs.Rows.{terms}
-use Rattle.circuit.specs.declared.place.RowNumber.{RowNumber}
 use Rattle.circuit.specs.declared.row.RowAnswer.{RowAnswer}
-use Rattle.circuit.specs.declared.row.RowAnswer.the-variants.{BufferTooShort, RowOutOfRange}
-use Rattle.circuit.specs.declared.row.RowAnswer.the-variants.{LengthAboveLimit as RowLength}
-use Rattle.sm3.specs.Digest.{longest}
-use Rattle.sm3.specs.Message.{blocks}
-use Rattle.sm3rows.specs.Packing.{SmallCheck, SmallRow}
+use Rattle.circuit.specs.declared.row.RowAnswer.the-variants.{Refused as RowRefused}
+use Rattle.refusal.specs.Packing.{above}
+use Rattle.refusal.specs.Refusals.{outcomeValues}
+use Rattle.refusal.specs.declared.outcome.Outcome.{Outcome}
+use Rattle.refusal.specs.declared.outcome.Outcome.the-variants.{Done, Refused}
+use Rattle.refusal.specs.declared.outcome.Refusal.the-variants.{LengthAboveLimit, RowOutOfRange, BufferTooShort, DigestNot32, WrongLength, WireZero, DigestWire, Unsatisfied}
+use Rattle.sm3.specs.Message.{blocks, longest}
+use Rattle.sm3rows.specs.Small.{SmallRow}
+
+-- the values of an answer have room
+abbrev pub Small : Outcome → Type 0
+Small o = above (outcomeValues o) < 2 ^ 56
+
+-- two tests, whose refusals have no values
+pub two-tests : (s t : Bool) → Small (cond s (Refused LengthAboveLimit) (cond t (Refused BufferTooShort) Done))
+two-tests true t = lit< tt
+two-tests false true = lit< tt
+two-tests false false = lit< tt
 
 counts-small : (size k : ℕ) → k < rowCount (8 * size) → SmallRow (counted (rowAt (8 * size) k))
 unfolding counted terms
@@ -33,40 +43,33 @@ counts-small size k below =
 
 -- a row is given only past the three tests, and the refusals have no values
 past-tests : (s t u : Bool) (y : RowAnswer) → (t ≡ false → SmallRow y)
-    → SmallRow (cond s RowLength (cond t RowOutOfRange (cond u BufferTooShort y)))
-past-tests true t u y h = tt
-past-tests false true u y h = tt
-past-tests false false true y h = tt
+    → SmallRow (cond s (RowRefused LengthAboveLimit) (cond t (RowRefused RowOutOfRange) (cond u (RowRefused BufferTooShort) y)))
+past-tests true t u y h = lit< tt
+past-tests false true u y h = lit< tt
+past-tests false false true y h = lit< tt
 past-tests false false false y h = h refl
 
 pub row-small : (size k room : ℕ) → SmallRow (rowAnswer size k room)
 unfolding rowAnswer
 row-small size k room =
-    past-tests (ltb longest size) (leb (rowCount (8 * size)) k) (ltb room 1956) (counted (rowAt (8 * size) k))
+    past-tests (ltb longest size) (leb (rowCount (8 * size)) k) (ltb room rowBytes) (counted (rowAt (8 * size) k))
     (λ e. counts-small size k (leb-false (rowCount (8 * size)) k e))
 
--- a row is named only past the test of the length
-past-length : (t : Bool) (y : CheckAnswer) (k : RowNumber) → cond t LengthAboveLimit y ≡ Unsatisfied k → t ≡ false
-past-length true y k e = cc
-past-length false y k e = refl
-
 module _ (L : ℕ) (d a : List ℕ) where
-  named-range : (k : RowNumber) → checkAnswer L d a ≡ Unsatisfied k → L ≤ longest
-  unfolding checkAnswer
-  named-range k e = ltb-false longest L (past-length (ltb longest L) _ k e)
-
-  named-small : (r : CheckAnswer) → checkAnswer L d a ≡ r → SmallCheck r
+  named-small : (o : Outcome) → checkAnswer L d a ≡ o → Small o
   unfolding rowCount blocks
-  named-small Accepted e = tt
-  named-small LengthAboveLimit e = tt
-  named-small DigestNot32 e = tt
-  named-small WrongLength e = tt
-  named-small WireZero e = tt
-  named-small DigestWire e = tt
-  named-small (Unsatisfied k) e =
+  named-small Done e = lit< tt
+  named-small (Refused LengthAboveLimit) e = lit< tt
+  named-small (Refused RowOutOfRange) e = lit< tt
+  named-small (Refused BufferTooShort) e = lit< tt
+  named-small (Refused DigestNot32) e = lit< tt
+  named-small (Refused WrongLength) e = lit< tt
+  named-small (Refused WireZero) e = lit< tt
+  named-small (Refused DigestWire) e = lit< tt
+  named-small (Refused (Unsatisfied k)) e =
       let below = unsatisfied-lowest L d a k e .below in
-      let range = named-range k e in
+      let range = in-range L d a k e in
       omega arith
 
-  pub check-small : SmallCheck (checkAnswer L d a)
+  pub check-small : Small (checkAnswer L d a)
   check-small = named-small (checkAnswer L d a) refl

@@ -1,15 +1,21 @@
 -- The operation's own answer, put into its number; the bytes are those that the operation leaves.
-use mathlib.Core.Path.{ap, _∙_}
 use borrow.Author.Needs.{needs}
-use Rattle.sm3rows.specs.Packing.{packedDigest}
+use mathlib.Core.Path.{ap, subst, sym, _∙_}
+use lib.Dec.{ltb}
+use lib.ListN.{length}
+use Rattle.sm3.specs.Message.{longest}
+use Rattle.refusal.specs.Packing.{packedOutcome}
+use Rattle.sm3rows.proofs.Small.{Small, two-tests}
 use Rattle.sm3rows.proofs.sm3rows_digest.Statement.{statement}
 use Rattle.sm3rows.proofs.sm3rows_digest.Tie as tie
 
 digest-requires : tie.Need-digest-requires
 digest-requires c κs = search needs
 
-number-of-digest-requires : tie.Need-number-of-digest-requires
-number-of-digest-requires c κs = search needs
+pack-outcome-requires : tie.Need-pack-outcome-requires
+pack-outcome-requires c κs =
+    let a = c .before .before .before .before .before .before .args in
+    subst Small (sym (c .before .before .digest .ensures .0)) (two-tests (ltb longest (length (a .bytes .now))) (ltb (length (a .out .now)) 32))
 
 same-length : tie.Need-same-length
 same-length c = search needs
@@ -17,8 +23,8 @@ same-length c = search needs
 returns : tie.Need-returns
 returns c =
     let answered = c .before .before .before .digest .ensures in
-    (c .number-of-digest .ensures ∙ ap packedDigest (answered .0), rw (answered .0) at (answered .1))
+    (c .pack-outcome .ensures ∙ ap packedOutcome (answered .0), rw (answered .0) at (answered .1))
 
 pub sm3rows-digest-spec : {M : Type 1} → statement M
 sm3rows-digest-spec =
-    tie.close (tie.spec digest-requires number-of-digest-requires same-length returns)
+    tie.close (tie.spec digest-requires pack-outcome-requires same-length returns)

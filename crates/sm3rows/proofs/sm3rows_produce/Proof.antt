@@ -1,15 +1,23 @@
 -- The operation's own answer, put into its number; the bytes are those that the operation leaves.
-use mathlib.Core.Path.{ap, _∙_}
 use borrow.Author.Needs.{needs}
-use Rattle.sm3rows.specs.Packing.{packedProduce}
+use mathlib.Core.Path.{ap, subst, sym, _∙_}
+use Prim.Native.Nat.{_*_}
+use lib.Dec.{ltb}
+use lib.ListN.{length}
+use Rattle.sm3.specs.Message.{longest}
+use Rattle.circuit.specs.Layout.{wireCount}
+use Rattle.refusal.specs.Packing.{packedOutcome}
+use Rattle.sm3rows.proofs.Small.{Small, two-tests}
 use Rattle.sm3rows.proofs.sm3rows_produce.Statement.{statement}
 use Rattle.sm3rows.proofs.sm3rows_produce.Tie as tie
 
 produce-requires : tie.Need-produce-requires
 produce-requires c κs = search needs
 
-number-of-produce-requires : tie.Need-number-of-produce-requires
-number-of-produce-requires c κs = search needs
+pack-outcome-requires : tie.Need-pack-outcome-requires
+pack-outcome-requires c κs =
+    let a = c .before .before .before .before .before .before .args in
+    subst Small (sym (c .before .before .produce .ensures .0)) (two-tests (ltb longest (length (a .bytes .now))) (ltb (length (a .out .now)) (8 * wireCount (8 * length (a .bytes .now)))))
 
 same-length : tie.Need-same-length
 same-length c = search needs
@@ -17,8 +25,8 @@ same-length c = search needs
 returns : tie.Need-returns
 returns c =
     let answered = c .before .before .before .produce .ensures in
-    (c .number-of-produce .ensures ∙ ap packedProduce (answered .0), rw (answered .0) at (answered .1))
+    (c .pack-outcome .ensures ∙ ap packedOutcome (answered .0), rw (answered .0) at (answered .1))
 
 pub sm3rows-produce-spec : {M : Type 1} → statement M
 sm3rows-produce-spec =
-    tie.close (tie.spec produce-requires number-of-produce-requires same-length returns)
+    tie.close (tie.spec produce-requires pack-outcome-requires same-length returns)

@@ -1,11 +1,12 @@
 -- Each arm is told which answer it is at. The three counts are at most 163 by the requires, so the number that holds them
 -- one above the other is below 2^64.
-use mathlib.Core.Path.{ap, sym}
-use native.Mathlib.Omega.{arith}
 use borrow.Author.Needs.{needs}
+use mathlib.Core.Path.{_∙_, ap, subst, sym}
+use native.Mathlib.Omega.{arith}
 use Rattle.sm3rows.specs.Packing.{packedRow}
-use Rattle.sm3rows.proofs.number_of_row.Statement.{statement}
-use Rattle.sm3rows.proofs.number_of_row.Tie as tie
+use Rattle.sm3rows.specs.Small.{SmallRow}
+use Rattle.sm3rows.proofs.pack_row.Statement.{statement}
+use Rattle.sm3rows.proofs.pack_row.Tie as tie
 
 enum-known-answer : tie.Need-enum-known-answer
 enum-known-answer c = search needs
@@ -25,29 +26,20 @@ add-result-2 c = omega (arith, rw (c .before .answer .given .1) at (c .before .b
 mul-result-3 : tie.Need-mul-result-3
 mul-result-3 c = omega (arith, rw (c .before .answer .given .1) at (c .before .before .before .pre))
 
-enum-told : tie.Need-enum-told
-enum-told c = search needs
+enum-known-answer-2 : tie.Need-enum-known-answer-2
+enum-known-answer-2 c = search needs
 
-enum-told-2 : tie.Need-enum-told-2
-enum-told-2 c = search needs
-
-enum-told-3 : tie.Need-enum-told-3
-enum-told-3 c = search needs
+pack-refusal-requires : tie.Need-pack-refusal-requires
+pack-refusal-requires c κs = subst SmallRow (c .before .answer2 .given .1) (c .before .before .before .pre)
 
 returns : tie.Need-returns
 returns c = omega (arith, ap packedRow (c .before .answer .given .1))
 
 returns-2 : tie.Need-returns-2
-returns-2 c = sym (ap packedRow (c .enum-told .given .1))
+returns-2 c = c .pack-refusal .ensures ∙ sym (ap packedRow (c .before .before .answer2 .given .1))
 
-returns-3 : tie.Need-returns-3
-returns-3 c = sym (ap packedRow (c .enum-told2 .given .1))
-
-returns-4 : tie.Need-returns-4
-returns-4 c = sym (ap packedRow (c .enum-told3 .given .1))
-
-pub number-of-row-spec : {M : Type 1} → statement M
-number-of-row-spec =
+pub pack-row-spec : {M : Type 1} → statement M
+pack-row-spec =
     tie.close
     (tie.spec
     enum-known-answer
@@ -56,10 +48,7 @@ number-of-row-spec =
     mul-result-2
     add-result-2
     mul-result-3
-    enum-told
-    enum-told-2
-    enum-told-3
+    enum-known-answer-2
+    pack-refusal-requires
     returns
-    returns-2
-    returns-3
-    returns-4)
+    returns-2)
