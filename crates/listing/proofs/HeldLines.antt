@@ -2,14 +2,15 @@
 -- row stand one behind the other.
 use mathlib.Core.List.{List, [], _∷_, _++_, append-assoc, append-nil}
 use mathlib.Core.Path.{_≡_, refl, sym, ap, ap₂, _∙_}
-use Prim.Native.Nat.{ℕ, suc, _+_, _*_}
+use Prim.Native.Nat.{ℕ, suc, _+_}
 use native.Mathlib.Omega.{arith}
-use lib.ListN.{drop, getD, length, take, length-append, take-append-drop}
+use lib.ListN.{length, length-append}
 use Rattle.circuit.specs.Rows.{Row, terms}
 use Rattle.circuit.specs.Terms.{flat}
 use Rattle.circuit.specs.declared.form.Term.{Term}
-use Rattle.circuit.proofs.Flat.{coefficient-at, wire-at}
-use Rattle.listing.specs.Listing.{heldLines, linesFrom, partLines, termLine}
+use Rattle.circuit.proofs.terms.Flat.{coefficient-at, wire-at}
+use Rattle.listing.specs.Held.{heldLines}
+use Rattle.listing.specs.Rows.{partLines, termLine}
 use Rattle.listing.proofs.Lines.{lines-front, lines-none}
 
 module _ (row part : ℕ) where
@@ -35,10 +36,7 @@ module _ (row part : ℕ) where
       counted = omega (arith, length-append before (t ∷ []))
 
 -- a buffer that holds a row
-module _ (r : Row) (held : List ℕ) (n : ℕ) (front : take (2 * n) held ≡ flat (terms r)) where
-  whole : held ≡ flat (terms r) ++ drop (2 * n) held
-  whole = sym (take-append-drop (2 * n) held) ∙ ap (λ (l : List ℕ). l ++ drop (2 * n) held) front
-
+module _ (r : Row) (held rest : List ℕ) (whole : held ≡ flat (terms r) ++ rest) where
   at-part :
       (row part : ℕ) (ts before after : List Term) (k m : ℕ)
       → terms r ≡ before ++ (ts ++ after)
@@ -46,9 +44,9 @@ module _ (r : Row) (held : List ℕ) (n : ℕ) (front : take (2 * n) held ≡ fl
       → m ≡ length ts
       → heldLines row part held k m ≡ partLines row part ts
   at-part row part ts before after k m split place count =
-      ap (λ (l : List ℕ). heldLines row part l k m) (whole ∙ ap (λ (l : List Term). flat l ++ drop (2 * n) held) split)
-      ∙ ap₂ (heldLines row part (flat (before ++ (ts ++ after)) ++ drop (2 * n) held)) place count
-      ∙ held-part row part ts before after (drop (2 * n) held)
+      ap (λ (l : List ℕ). heldLines row part l k m) (whole ∙ ap (λ (l : List Term). flat l ++ rest) split)
+      ∙ ap₂ (heldLines row part (flat (before ++ (ts ++ after)) ++ rest)) place count
+      ∙ held-part row part ts before after rest
 
   pub held-A : (row part m : ℕ) → m ≡ length (r .A) → heldLines row part held 0 m ≡ partLines row part (r .A)
   unfolding terms

@@ -1,11 +1,11 @@
-pub mod Answers
+pub mod AllPrinted
 pub mod Chunks
 pub mod Digits
 pub mod FieldRight
 pub mod Fields
 pub mod HeldLines
-pub mod KindRight
 pub mod LineRight
 pub mod Lines
 pub mod Names
-pub mod Written
+pub mod Put
+pub mod Requests

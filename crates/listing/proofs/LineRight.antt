@@ -12,10 +12,10 @@ use Rattle.listing.specs.Line.{Right, after, ended, fieldOf, line, parse
 use Rattle.listing.specs.Text.{comma, lineFeed}
 use Rattle.listing.specs.declared.line.Field.{Field}
 use Rattle.listing.specs.declared.line.Field.the-variants.{Number, Wrong}
-use Rattle.listing.specs.declared.line.Request.{Request}
-use Rattle.listing.specs.declared.line.Request.the-variants.{Numbers, BadLine}
+use Rattle.listing.specs.declared.line.Parsed.{Parsed}
+use Rattle.listing.specs.declared.line.Parsed.the-variants.{Numbers, Malformed}
 use Rattle.listing.proofs.Digits.{length-decimal}
-use Rattle.listing.proofs.FieldRight.{Begins, field-begins, field-read, field-rest}
+use Rattle.listing.proofs.FieldRight.{field-begins, field-read, field-rest}
 
 -- a right line, field by field
 fields : ℕ → ℕ → ℕ → List ℕ
@@ -31,7 +31,7 @@ goes-on :
     → stop < 48
     → (v : ℕ)
     → v < 1000000000
-    → (t : List ℕ) (next : ℕ → List ℕ → Request)
+    → (t : List ℕ) (next : ℕ → List ℕ → Parsed)
     → after (fieldOf stop (field v stop ++ t)) (field v stop ++ t) next ≡ next v t
 goes-on stop apart v below t next =
     ap (λ (f : Field). after f (field v stop ++ t) next) (field-read stop apart v below t)
@@ -44,11 +44,11 @@ read-whole l f h l-below f-below h-below =
     ∙ goes-on comma (omega arith) f f-below (field h lineFeed ++ []) _
     ∙ goes-on lineFeed (omega arith) h h-below [] _
 
-never : {l f h : ℕ} → BadLine ≡ Numbers l f h → ⊥
+never : {l f h : ℕ} → Malformed ≡ Numbers l f h → ⊥
 never e = let z : _≡_ {A = ℕ} 0 1 = cc in omega arith
 
 -- what was read before the rest t
-record Past (stop : ℕ) (s : List ℕ) (next : ℕ → List ℕ → Request) (r : Request) : Type 0 where
+record Past (stop : ℕ) (s : List ℕ) (next : ℕ → List ℕ → Parsed) (r : Parsed) : Type 0 where
   v : ℕ
   t : List ℕ
   below : v < 1000000000
@@ -56,7 +56,7 @@ record Past (stop : ℕ) (s : List ℕ) (next : ℕ → List ℕ → Request) (r
   on : next v t ≡ r
 
 past :
-    (stop : ℕ) (s : List ℕ) (next : ℕ → List ℕ → Request) (l f h : ℕ)
+    (stop : ℕ) (s : List ℕ) (next : ℕ → List ℕ → Parsed) (l f h : ℕ)
     → after (fieldOf stop s) s next ≡ Numbers l f h
     → Past stop s next (Numbers l f h)
 past stop s next l f h e = by (fieldOf stop s) refl e
@@ -105,19 +105,19 @@ parse-right s l f h = (right, λ given. ap parseOf (given .3 ∙ line-fields l f
         (first .is) (second .is) (third .is) (first .below, second .below, third .below) (third .on)
 
 -- .. and is refused otherwise
-pub parse-wrong : (s : List ℕ) → (parseOf s ≡ BadLine) ↔ ((l f h : ℕ) → Right s l f h → ⊥)
+pub parse-wrong : (s : List ℕ) → (parseOf s ≡ Malformed) ↔ ((l f h : ℕ) → Right s l f h → ⊥)
 parse-wrong s = (λ bad l f h right. never (sym bad ∙ parse-right s l f h .1 right), by (parseOf s) refl)
   where
-    by : (r : Request) → parseOf s ≡ r → ((l f h : ℕ) → Right s l f h → ⊥) → parseOf s ≡ BadLine
+    by : (r : Parsed) → parseOf s ≡ r → ((l f h : ℕ) → Right s l f h → ⊥) → parseOf s ≡ Malformed
     by (Numbers l f h) read none = absurd (none l f h (parse-right s l f h .0 read))
-    by BadLine read none = read
+    by Malformed read none = read
 
 -- A right line has at most 30 bytes, so a buffer that holds one more is long enough to tell.
 length-field : (v stop : ℕ) → v < 1000000000 → length (field v stop) ≤ 10
 unfolding field
 length-field v stop below = omega (arith, length-decimal 8 v below, length-append (decimal v) (stop ∷ []))
 
-pub long-wrong : (s : List ℕ) → 30 < length s → parseOf s ≡ BadLine
+pub long-wrong : (s : List ℕ) → 30 < length s → parseOf s ≡ Malformed
 unfolding line
 long-wrong s long =
     parse-wrong s .1 λ l f h right.

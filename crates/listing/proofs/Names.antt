@@ -3,12 +3,13 @@ use mathlib.Core.Path.{_≡_, refl}
 use Prim.Native.Nat.{_≤_}
 use lib.Dec.{lit≤}
 use lib.ListN.{drop, length}
+use Rattle.circuit.specs.declared.form.Form.{Form}
+use Rattle.circuit.specs.declared.form.Form.the-variants.{Fixed, Bit, XorOfTwo, XorOfThree, Majority, Choice, Sum, Equal}
 use Rattle.circuit.specs.declared.place.Step.{Step}
 use Rattle.circuit.specs.declared.place.Step.the-variants.{Start, Message, Q, P1, W, WPrime, U, Ss2, Ff, Gg, Tt1, Tt2, P0, Result, Digest}
-use Rattle.listing.specs.Steps.{allKinds, allSteps, kindPlace, kindText, stepPlace, stepText}
-use Rattle.listing.specs.Text.{comma, lineFeed, through}
-use Rattle.listing.specs.declared.step.Kind.{Kind}
-use Rattle.listing.specs.declared.step.Kind.the-variants.{Fixed, Bit, XorOfTwo, XorOfThree, Majority, Choice, Sum, Equal}
+use Rattle.listing.specs.Names.{allForms, allSteps, formPlace, stepPlace, through}
+use Rattle.listing.specs.Steps.{formText, stepText}
+use Rattle.listing.specs.Text.{comma, lineFeed}
 
 pub step-name : (s : Step) → (through comma (drop (stepPlace s) allSteps) ≡ stepText s) × (length (stepText s) ≤ 8)
 unfolding through
@@ -28,13 +29,13 @@ step-name P0 = (refl, lit≤ tt)
 step-name Result = (refl, lit≤ tt)
 step-name Digest = (refl, lit≤ tt)
 
-pub kind-name : (k : Kind) → (through lineFeed (drop (kindPlace k) allKinds) ≡ kindText k) × (length (kindText k) ≤ 13)
+pub form-name : (f : Form) → (through lineFeed (drop (formPlace f) allForms) ≡ formText f) × (length (formText f) ≤ 13)
 unfolding through
-kind-name Fixed = (refl, lit≤ tt)
-kind-name Bit = (refl, lit≤ tt)
-kind-name XorOfTwo = (refl, lit≤ tt)
-kind-name XorOfThree = (refl, lit≤ tt)
-kind-name Majority = (refl, lit≤ tt)
-kind-name Choice = (refl, lit≤ tt)
-kind-name Sum = (refl, lit≤ tt)
-kind-name Equal = (refl, lit≤ tt)
+form-name (Fixed w b) = (refl, lit≤ tt)
+form-name (Bit w) = (refl, lit≤ tt)
+form-name (XorOfTwo x y r) = (refl, lit≤ tt)
+form-name (XorOfThree x y z r) = (refl, lit≤ tt)
+form-name (Majority x y z r) = (refl, lit≤ tt)
+form-name (Choice x y z r) = (refl, lit≤ tt)
+form-name (Sum s k r) = (refl, lit≤ tt)
+form-name (Equal x y) = (refl, lit≤ tt)

@@ -10,15 +10,15 @@ use Rattle.listing.specs.Decimal.{field}
 use Rattle.listing.specs.Text.{comma, lineFeed}
 use Rattle.listing.specs.declared.line.Field.{Field}
 use Rattle.listing.specs.declared.line.Field.the-variants.{Number, Wrong}
-use Rattle.listing.specs.declared.line.Request.{Request}
-use Rattle.listing.specs.declared.line.Request.the-variants.{Numbers, BadLine}
+use Rattle.listing.specs.declared.line.Parsed.{Parsed}
+use Rattle.listing.specs.declared.line.Parsed.the-variants.{Numbers, Malformed}
 
 -- the line of three numbers
 unfoldable pub line : ℕ → ℕ → ℕ → List ℕ
 line l f h = field l comma ++ field f comma ++ field h lineFeed
 
 -- a line that is not refused: the numbers have at most 9 digits. `parseOf`, below, finds them: it gives l, f and h exactly
--- if `Right s l f h` (`parse-right` of proofs/LineRight), and `BadLine` exactly if there are none (`parse-wrong`)
+-- if `Right s l f h` (`parse-right` of proofs/LineRight), and `Malformed` exactly if there are none (`parse-wrong`)
 abbrev pub Right : List ℕ → ℕ → ℕ → ℕ → Type 0
 Right s l f h = (l < 1000000000) × (f < 1000000000) × (h < 1000000000) × (s ≡ line l f h)
 
@@ -37,15 +37,15 @@ unfoldable pub fieldOf : ℕ → List ℕ → Field
 fieldOf stop s = fieldFrom stop 0 0 s
 
 -- what follows a field at the front of s
-abbrev pub after : Field → List ℕ → (ℕ → List ℕ → Request) → Request
-after Wrong s next = BadLine
+abbrev pub after : Field → List ℕ → (ℕ → List ℕ → Parsed) → Parsed
+after Wrong s next = Malformed
 after (Number v n) s next = next v (drop n s)
 
-abbrev pub ended : List ℕ → Request → Request
+abbrev pub ended : List ℕ → Parsed → Parsed
 ended [] r = r
-ended (c ∷ s) r = BadLine
+ended (c ∷ s) r = Malformed
 
-unfoldable pub parseOf : List ℕ → Request
+unfoldable pub parseOf : List ℕ → Parsed
 parseOf s =
     after (fieldOf comma s) s λ l s₁.
     after (fieldOf comma s₁) s₁ λ f s₂.

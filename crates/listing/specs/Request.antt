@@ -1,35 +1,41 @@
--- The answer to a line (document 01, "Refusals in checking order").
+-- What a line asks for, or why it is refused (document 01, "Refusals in checking order").
 use mathlib.Core.Bool.{cond}
-use mathlib.Core.List.{List}
+use mathlib.Core.List.{List, [], _∷_}
 use Prim.Native.Nat.{ℕ, _+_, _*_}
 use lib.Dec.{ltb}
 use Rattle.circuit.specs.Places.{rowCount}
-use Rattle.circuit.specs.declared.place.RowNumber.{RowNumber}
+use Rattle.refusal.specs.Refusals.{refusalNumber, refusalValues}
+use Rattle.refusal.specs.declared.outcome.Refusal.the-variants.{LengthAboveLimit, RowOutOfRange}
+use Rattle.sm3.specs.Message.{longest}
 use Rattle.listing.specs.Line.{parseOf}
-use Rattle.listing.specs.declared.line.Request.{Request}
-use Rattle.listing.specs.declared.line.Request.the-variants.{BadLine, Numbers}
-use Rattle.listing.specs.declared.request.Answer.{Answer}
-use Rattle.listing.specs.declared.request.Answer.the-variants.{BadLine as Malformed, LengthAboveLimit, RowOutOfRange, Rows}
-use Rattle.sm3.specs.Digest.{longest}
+use Rattle.listing.specs.declared.line.Parsed.{Parsed}
+use Rattle.listing.specs.declared.line.Parsed.the-variants.{Malformed, Numbers}
+use Rattle.listing.specs.declared.request.Request.{Request}
+use Rattle.listing.specs.declared.request.Request.the-variants.{BadLine, Refused, Rows}
 
 -- "2. The record length is above 1,015." "3. .. (in the program: first row plus how many exceeds the count)": for a
 -- length, a first row and how many
-unfoldable pub checked : ℕ → ℕ → ℕ → Answer
+unfoldable pub checked : ℕ → ℕ → ℕ → Request
 checked l f h =
-    cond (ltb longest l) LengthAboveLimit
-    (cond (ltb (rowCount (8 * l)) (f + h)) RowOutOfRange
+    cond (ltb longest l) (Refused LengthAboveLimit)
+    (cond (ltb (rowCount (8 * l)) (f + h)) (Refused RowOutOfRange)
     (Rows (8 * l) (record { 0 = f }) h))
 
-abbrev pub answered : Request → Answer
-answered (Numbers l f h) = checked l f h
-answered BadLine = Malformed
+abbrev pub asked : Parsed → Request
+asked (Numbers l f h) = checked l f h
+asked Malformed = BadLine
 
-unfoldable pub answerOf : List ℕ → Answer
-answerOf s = answered (parseOf s)
+unfoldable pub requestOf : List ℕ → Request
+requestOf s = asked (parseOf s)
 
--- the paper's number of each answer, 0 for none
-abbrev pub refusalNumber : Answer → ℕ
-refusalNumber (Rows n f h) = 0
-refusalNumber Malformed = 1
-refusalNumber LengthAboveLimit = 2
-refusalNumber RowOutOfRange = 3
+-- the paper's number of a refusal, 0 for none: "1. The program's line is not three decimal numbers .."
+abbrev pub requestNumber : Request → ℕ
+requestNumber (Rows n f h) = 0
+requestNumber BadLine = 1
+requestNumber (Refused r) = refusalNumber r
+
+-- its values: those of a refusal, which are none (`refused-values` of proofs/Requests), or what is asked for
+abbrev pub requestValues : Request → List ℕ
+requestValues (Rows n f h) = n ∷ f .0 ∷ h ∷ []
+requestValues BadLine = []
+requestValues (Refused r) = refusalValues r

@@ -1,8 +1,8 @@
 // What the programs `rows` and `steps` read and print.
-pub mod chunk;
 pub mod decimal;
 pub mod line;
 pub mod program;
+pub mod progress;
 pub mod request;
 pub mod step;
 pub mod term;

@@ -1,27 +1,21 @@
 // The line that asks for rows: `length,first,how many` and a line feed.
 ghost use mathlib.Core.Path.{_≡_};
-ghost use Prim.Native.Nat.{_<_};
 ghost use lib.ListN.{drop};
 ghost use Rattle.listing.specs.Line.{continues, fieldOf, parseOf};
+use encoding::read::wide;
 
 // What a line says.
-pub enum Request {
+pub enum Parsed {
     // Three numbers below 1,000,000,000.
     Numbers { length: u64, first: u64, many: u64 },
-    // Refusal 1: it is no such line.
-    BadLine,
+    // It is no such line.
+    Malformed,
 }
 
 // A number at the front of some bytes, and how many of them it takes with the byte after it.
 enum Field {
     Number { value: u64, bytes: usize },
     Wrong,
-}
-
-fn wide(x: u8) -> u64
-    ensures { λ r. ⌜ (r ≡ x) × (r < 256) ⌝ }
-{
-    x as u64
 }
 
 // Whether c is a digit that may follow n digits of the value v: the number stays below 1,000,000,000 and has no leading
@@ -71,7 +65,7 @@ fn read_field(s: &[u8], at: usize, stop: u8) -> Field
 }
 
 // The three numbers of a line.
-pub fn parse(s: &[u8]) -> Request
+pub fn parse(s: &[u8]) -> Parsed
     ensures { λ r. ⌜ r ≡ parseOf (now (s .entry)) ⌝ }
 {
     let Field::Number {
@@ -79,26 +73,26 @@ pub fn parse(s: &[u8]) -> Request
         bytes: a,
     } = read_field(s, 0, b',')
     else {
-        return Request::BadLine;
+        return Parsed::Malformed;
     };
     let Field::Number {
         value: first,
         bytes: b,
     } = read_field(s, a, b',')
     else {
-        return Request::BadLine;
+        return Parsed::Malformed;
     };
     let Field::Number {
         value: many,
         bytes: c,
     } = read_field(s, a + b, b'\n')
     else {
-        return Request::BadLine;
+        return Parsed::Malformed;
     };
     if a + b + c < s.len() {
-        return Request::BadLine;
+        return Parsed::Malformed;
     }
-    Request::Numbers {
+    Parsed::Numbers {
         length,
         first,
         many,

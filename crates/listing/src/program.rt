@@ -1,24 +1,19 @@
-// The bodies of the programs `rows` and `steps`. What is read and written can stand in no contract; the bytes that are
-// handed to a write can, and do so in `chunk` and in `put_refusal`.
-ghost use Prim.Native.Nat.{_≤_};
+// The programs `rows` and `steps`. What is read and written can stand in no contract; what is handed to the writes, one after
+// the other, is `prints` (specs/Progress, `PrintsAll`).
+ghost use mathlib.Core.Path.{_≡_};
+ghost use Prim.Native.Nat.{ℕ, _≤_};
 ghost use lib.ListN.{length};
-ghost use Rattle.circuit.specs.Places.{rowCount};
-ghost use Rattle.listing.specs.Listing.{InBuffer, refused};
-ghost use Rattle.listing.specs.Put.{Put};
-use crate::chunk::fill_rows;
-use crate::chunk::fill_steps;
-use crate::decimal::put_field;
-use crate::request::Answer;
-use crate::request::answer_to;
-use crate::request::refusal_number;
-use crate::text::put_through;
-use circuit::place::RowNumber;
+use crate::progress::Listing;
+use crate::progress::begin;
+use crate::progress::more;
+use crate::progress::next_chunk;
+use circuit::terms::TERM_ROOM;
 use libc::STDERR_FILENO;
 use libc::STDIN_FILENO;
 use libc::STDOUT_FILENO;
 
 // What was read of standard input.
-pub enum Input {
+enum Input {
     // So many bytes: all, or as many as the buffer has.
     Bytes(usize),
     // A read failed.
@@ -27,8 +22,8 @@ pub enum Input {
 
 // Reads standard input to its end, or until the buffer is full. A line that is not refused has at most 30 bytes, so a
 // buffer of 31 or more is enough to tell.
-pub fn read_input(buf: &mut [u8]) -> Input
-    ensures { λ r. ⌜ InBuffer (length (now (buf .exit))) r ⌝ }
+fn read_input(buf: &mut [u8]) -> Input
+    ensures { λ r. ⌜ ((n : ℕ) → r ≡ Input.Bytes n → n ≤ length (now (buf .exit))) ⌝ }
 {
     let mut n = 0;
     while n < buf.len() {
@@ -54,78 +49,27 @@ fn print(s: &[u8]) -> bool {
     false
 }
 
-// `refused,` and the number.
-pub fn put_refusal(out: &mut [u8], number: u64) -> usize
-    requires { ⌜ 29 ≤ length (now out) ⌝ }
-    ensures { λ r. ⌜ Put (now (out .entry)) 0 (refused number) (now (out .exit)) r × (r ≤ 29) ⌝ }
-{
-    let at = put_through(out, 0, b"refused,", 0, b',');
-    put_field(out, at, number, b'\n')
-}
-
-fn print_refusal(number: u64) {
-    let mut out = [0u8; 29];
-    let n = put_refusal(&mut out, number);
-    print(&out[..n]);
-}
-
-// The lines of the rows from `first` up to, not including, `end`.
-fn print_rows(out: &mut [u8], bits: u64, first: RowNumber, end: RowNumber, terms: &mut [u64])
-    requires { ⌜ (10595 ≤ length (now out)) × (bits ≤ 8127) × (first .0 ≤ end .0) × (end .0 ≤ rowCount bits) × (326 ≤ length (now terms)) ⌝ }
-{
-    let mut next = first;
-    while next.0 < end.0 {
-        let chunk = fill_rows(out, bits, next, end, terms);
+// Prints what a line asks for, chunk after chunk.
+pub fn print_listing(listing: Listing, line: &[u8]) {
+    let mut out = io::large_buffer();
+    let mut terms = [0u64; TERM_ROOM];
+    let mut progress = begin(line);
+    while more(progress) {
+        let chunk = next_chunk(listing, progress, &mut out, &mut terms);
         let n = chunk.bytes;
         if !print(&out[..n]) {
             return;
         }
-        next = chunk.next;
+        progress = chunk.next;
     }
 }
 
-// The lines that say which steps the rows from `first` up to, not including, `end` stand for.
-fn print_steps(out: &mut [u8], bits: u64, first: RowNumber, end: RowNumber)
-    requires { ⌜ (105 ≤ length (now out)) × (bits ≤ 8127) × (first .0 ≤ end .0) × (end .0 ≤ rowCount bits) ⌝ }
-{
-    let mut next = first;
-    while next.0 < end.0 {
-        let chunk = fill_steps(out, bits, next, end);
-        let n = chunk.bytes;
-        if !print(&out[..n]) {
-            return;
-        }
-        next = chunk.next;
-    }
-}
-
-// What `rows` prints for a line.
-pub fn rows(line: &[u8]) {
-    let asked = answer_to(line);
-    let Answer::Rows { bits, first, many } = asked else {
-        print_refusal(refusal_number(asked));
+// Prints what the line on standard input asks for.
+pub fn run(listing: Listing) {
+    let mut space = [0u8; 32];
+    let Input::Bytes(n) = read_input(&mut space) else {
+        io::write_all(STDERR_FILENO, b"cannot read standard input\n");
         return;
     };
-    if !print(b"row,part,wire,coefficient\n") {
-        return;
-    }
-    let mut out = io::large_buffer();
-    let mut terms = [0u64; 326];
-    let end = RowNumber(first.0 + many);
-    print_rows(&mut out, bits, first, end, &mut terms);
-}
-
-// What `steps` prints for a line.
-pub fn steps(line: &[u8]) {
-    let asked = answer_to(line);
-    let Answer::Rows { bits, first, many } = asked else {
-        print_refusal(refusal_number(asked));
-        return;
-    };
-    if !print(b"row,block,step,index,bit,form\n") {
-        return;
-    }
-    let mut out = io::large_buffer();
-    let end = RowNumber(first.0 + many);
-    print_steps(&mut out, bits, first, end);
+    print_listing(listing, &space[..n]);
 }

@@ -1,13 +1,16 @@
 // What a line asks for, or why it is refused.
 ghost use mathlib.Core.Path.{_≡_};
-ghost use Rattle.listing.specs.Request.{answerOf, refusalNumber};
-use crate::line::Request;
+ghost use Rattle.listing.specs.Request.{requestNumber, requestOf};
+use crate::line::Parsed;
 use crate::line::parse;
-use circuit::place::RowNumber;
 use circuit::place::row_count;
+use refusal::numbers::RowNumber;
+use refusal::outcome::Refusal;
+use refusal::outcome::number_of;
+use sm3::message::LONGEST;
 
-// The answer to a line.
-pub enum Answer {
+// What a line asks for.
+pub enum Request {
     // So many rows from `first` on, of a record of so many bits.
     Rows {
         bits: u64,
@@ -16,32 +19,30 @@ pub enum Answer {
     },
     // Refusal 1: the line is not three numbers.
     BadLine,
-    // Refusal 2: the record length is above 1,015.
-    LengthAboveLimit,
-    // Refusal 3: the rows pass the row count.
-    RowOutOfRange,
+    // Refusal 2 or 3.
+    Refused(Refusal),
 }
 
-// The answer to a line, by the refusals in their order.
-pub fn answer_to(line: &[u8]) -> Answer
-    ensures { λ r. ⌜ r ≡ answerOf (now (line .entry)) ⌝ }
+// What a line asks for, by the refusals in their order.
+pub fn request_of(line: &[u8]) -> Request
+    ensures { λ r. ⌜ r ≡ requestOf (now (line .entry)) ⌝ }
 {
-    let Request::Numbers {
+    let Parsed::Numbers {
         length,
         first,
         many,
     } = parse(line)
     else {
-        return Answer::BadLine;
+        return Request::BadLine;
     };
-    if 1015 < length {
-        return Answer::LengthAboveLimit;
+    if LONGEST < length {
+        return Request::Refused(Refusal::LengthAboveLimit);
     }
     let bits = 8 * length;
     if row_count(bits) < first + many {
-        return Answer::RowOutOfRange;
+        return Request::Refused(Refusal::RowOutOfRange);
     }
-    Answer::Rows {
+    Request::Rows {
         bits,
         first: RowNumber(first),
         many,
@@ -49,17 +50,16 @@ pub fn answer_to(line: &[u8]) -> Answer
 }
 
 // The number of a refusal, 0 for none.
-pub fn refusal_number(a: Answer) -> u64
-    ensures { λ r. ⌜ r ≡ refusalNumber a ⌝ }
+pub fn refusal_number(request: Request) -> u64
+    ensures { λ r. ⌜ r ≡ requestNumber request ⌝ }
 {
-    match a {
-        Answer::Rows {
+    match request {
+        Request::Rows {
             bits: _,
             first: _,
             many: _,
         } => 0,
-        Answer::BadLine => 1,
-        Answer::LengthAboveLimit => 2,
-        Answer::RowOutOfRange => 3,
+        Request::BadLine => 1,
+        Request::Refused(refusal) => number_of(refusal),
     }
 }

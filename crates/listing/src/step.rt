@@ -3,130 +3,22 @@ ghost use mathlib.Core.Path.{_≡_};
 ghost use Prim.Native.Nat.{_+_, _<_, _≤_};
 ghost use lib.ListN.{length};
 ghost use Rattle.circuit.specs.Places.{rowCount};
-ghost use Rattle.circuit.specs.Ranges.{InRecord};
+ghost use Rattle.listing.specs.Names.{formPlace, stepPlace};
 ghost use Rattle.listing.specs.Put.{Put};
-ghost use Rattle.listing.specs.Steps.{equation, equationOf, hasBit, inBlock, kindAt, kindPlace, kindText, optional, rowKind, rowsABit, stepLine, stepPlace, stepText, whatText, whereText};
+ghost use Rattle.listing.specs.Steps.{formText, inBlock, optional, stepLine, stepRoom, stepText, whatText, whereText};
+ghost use Rattle.sm3.specs.Message.{mostBits};
 use crate::decimal::put_field;
 use crate::text::put_through;
+use circuit::form::Form;
 use circuit::place::Place;
-use circuit::place::RowNumber;
 use circuit::place::Step;
+use circuit::place::lines_of;
 use circuit::place::place_of;
+use circuit::step_form::form_of;
+use refusal::numbers::RowNumber;
 
-// The row forms.
-pub enum Kind {
-    Fixed,
-    Bit,
-    XorOfTwo,
-    XorOfThree,
-    Majority,
-    Choice,
-    Sum,
-    Equal,
-}
-
-// The equation that makes a step's word. `given` says of a message bit that it is the record's, `early` that the round is
-// one of 0 to 15.
-fn equation_of(given: bool, early: bool, step: Step) -> Kind
-    ensures { λ r. ⌜ r ≡ equationOf given early step ⌝ }
-{
-    match step {
-        Step::Start => Kind::Fixed,
-        Step::Message => {
-            if given {
-                return Kind::Bit;
-            }
-            Kind::Fixed
-        }
-        Step::Q => Kind::XorOfThree,
-        Step::P1 => Kind::XorOfThree,
-        Step::W => Kind::XorOfThree,
-        Step::WPrime => Kind::XorOfTwo,
-        Step::U => Kind::Sum,
-        Step::Ss2 => Kind::XorOfTwo,
-        Step::Ff => {
-            if early {
-                return Kind::XorOfThree;
-            }
-            Kind::Majority
-        }
-        Step::Gg => {
-            if early {
-                return Kind::XorOfThree;
-            }
-            Kind::Choice
-        }
-        Step::Tt1 => Kind::Sum,
-        Step::Tt2 => Kind::Sum,
-        Step::P0 => Kind::XorOfThree,
-        Step::Result => Kind::XorOfTwo,
-        Step::Digest => Kind::Equal,
-    }
-}
-
-// The form of a row of an equation. `even` says of its line that it is the first of a pair, `low` that it is one of the
-// first 34.
-fn kind_at(even: bool, low: bool, equation: Kind) -> Kind
-    ensures { λ r. ⌜ r ≡ kindAt even low equation ⌝ }
-{
-    match equation {
-        Kind::Fixed => Kind::Fixed,
-        Kind::Bit => Kind::Bit,
-        Kind::XorOfTwo => Kind::XorOfTwo,
-        Kind::XorOfThree => {
-            if even {
-                return Kind::Bit;
-            }
-            Kind::XorOfThree
-        }
-        Kind::Majority => {
-            if even {
-                return Kind::Bit;
-            }
-            Kind::Majority
-        }
-        Kind::Choice => Kind::Choice,
-        Kind::Sum => {
-            if low {
-                return Kind::Bit;
-            }
-            Kind::Sum
-        }
-        Kind::Equal => Kind::Equal,
-    }
-}
-
-// How many rows an equation has at a position.
-fn rows_a_bit(equation: Kind) -> u64
-    ensures { λ r. ⌜ r ≡ rowsABit equation ⌝ }
-{
-    match equation {
-        Kind::Fixed => 1,
-        Kind::Bit => 1,
-        Kind::XorOfTwo => 1,
-        Kind::XorOfThree => 2,
-        Kind::Majority => 2,
-        Kind::Choice => 1,
-        Kind::Sum => 1,
-        Kind::Equal => 1,
-    }
-}
-
-// Whether a row has a position: a sum's equation has none.
-fn has_bit(kind: Kind) -> bool
-    ensures { λ r. ⌜ r ≡ hasBit kind ⌝ }
-{
-    match kind {
-        Kind::Fixed => true,
-        Kind::Bit => true,
-        Kind::XorOfTwo => true,
-        Kind::XorOfThree => true,
-        Kind::Majority => true,
-        Kind::Choice => true,
-        Kind::Sum => false,
-        Kind::Equal => true,
-    }
-}
+// How many bytes the line of a row takes at most.
+pub const STEP_ROOM: usize = 105;
 
 // Whether a step is of a block.
 fn in_block(step: Step) -> bool
@@ -175,18 +67,37 @@ fn step_place(step: Step) -> usize
 }
 
 // Where the name of a form begins among the names of all.
-fn kind_place(kind: Kind) -> usize
-    ensures { λ r. ⌜ r ≡ kindPlace kind ⌝ }
+fn form_place(form: Form) -> usize
+    ensures { λ r. ⌜ r ≡ formPlace form ⌝ }
 {
-    match kind {
-        Kind::Fixed => 0,
-        Kind::Bit => 6,
-        Kind::XorOfTwo => 10,
-        Kind::XorOfThree => 21,
-        Kind::Majority => 34,
-        Kind::Choice => 43,
-        Kind::Sum => 50,
-        Kind::Equal => 54,
+    match form {
+        Form::Fixed { w: _, bit: _ } => 0,
+        Form::Bit { w: _ } => 6,
+        Form::XorOfTwo { x: _, y: _, r: _ } => 10,
+        Form::XorOfThree {
+            x: _,
+            y: _,
+            z: _,
+            r: _,
+        } => 21,
+        Form::Majority {
+            x: _,
+            y: _,
+            z: _,
+            r: _,
+        } => 34,
+        Form::Choice {
+            x: _,
+            y: _,
+            z: _,
+            r: _,
+        } => 43,
+        Form::Sum {
+            addends: _,
+            constant: _,
+            r: _,
+        } => 50,
+        Form::Equal { x: _, y: _ } => 54,
     }
 }
 
@@ -200,12 +111,12 @@ fn put_step(out: &mut [u8], at: usize, step: Step) -> usize
 }
 
 // The name of a form and a line feed.
-fn put_kind(out: &mut [u8], at: usize, kind: Kind) -> usize
+fn put_form(out: &mut [u8], at: usize, form: Form) -> usize
     requires { ⌜ at + 13 ≤ length (now out) ⌝ }
-    ensures { λ r. ⌜ Put (now (out .entry)) at (kindText kind) (now (out .exit)) r × (r ≤ at + 13) ⌝ }
+    ensures { λ r. ⌜ Put (now (out .entry)) at (formText form) (now (out .exit)) r × (r ≤ at + 13) ⌝ }
 {
     let names = b"fixed\nbit\nxor of two\nxor of three\nmajority\nchoice\nsum\nequal\n";
-    put_through(out, at, names, kind_place(kind), b'\n')
+    put_through(out, at, names, form_place(form), b'\n')
 }
 
 // A number that may be left out, and the byte after it.
@@ -231,35 +142,25 @@ fn put_where(out: &mut [u8], at: usize, row: RowNumber, p: Place) -> usize
     put_step(out, b, step)
 }
 
-// `index,bit,form` of a row at the place p whose word is made by an equation.
-fn put_what(out: &mut [u8], at: usize, p: Place, equation: Kind) -> usize
+// `index,bit,form` of a row at the place p of a form.
+fn put_what(out: &mut [u8], at: usize, p: Place, form: Form) -> usize
     requires { ⌜ at + 55 ≤ length (now out) ⌝ }
-    ensures { λ r. ⌜ Put (now (out .entry)) at (whatText p equation) (now (out .exit)) r × (r ≤ at + 55) ⌝ }
-{
-    let l = p.line;
-    let kind = kind_at(l % 2 == 0, l < 34, equation);
-    let a = put_field(out, at, p.index, b',');
-    let b = put_optional(out, a, has_bit(kind), l / rows_a_bit(equation), b',');
-    put_kind(out, b, kind)
-}
-
-// The equation that makes the word of the row at p, for a record of so many bits.
-fn equation_at(bits: u64, p: Place) -> Kind
-    requires { ⌜ (bits ≤ 8127) × InRecord bits p ⌝ }
-    ensures { λ r. ⌜ r ≡ equation bits p ⌝ }
+    ensures { λ r. ⌜ Put (now (out .entry)) at (whatText p form) (now (out .exit)) r × (r ≤ at + 55) ⌝ }
 {
     let step = p.step;
-    let k = 512 * p.block + 32 * p.index + p.line;
-    equation_of(k < bits, p.index < 16, step)
+    let position = p.line / (lines_of(step, p.index) / 32);
+    let a = put_field(out, at, p.index, b',');
+    let b = put_optional(out, a, position < 34, position, b',');
+    put_form(out, b, form)
 }
 
 // The line of a row of a record of so many bits.
 pub fn put_step_line(out: &mut [u8], at: usize, bits: u64, row: RowNumber) -> usize
-    requires { ⌜ (at + 105 ≤ length (now out)) × (bits ≤ 8127) × (row .0 < rowCount bits) ⌝ }
-    ensures { λ r. ⌜ Put (now (out .entry)) at (stepLine bits (row .0)) (now (out .exit)) r × (r ≤ at + 105) ⌝ }
+    requires { ⌜ (at + stepRoom ≤ length (now out)) × (bits ≤ mostBits) × (row .0 < rowCount bits) ⌝ }
+    ensures { λ r. ⌜ Put (now (out .entry)) at (stepLine bits (row .0)) (now (out .exit)) r × (r ≤ at + stepRoom) ⌝ }
 {
     let p = place_of(bits, row);
-    let equation = equation_at(bits, p);
+    let form = form_of(bits, p);
     let middle = put_where(out, at, row, p);
-    put_what(out, middle, p, equation)
+    put_what(out, middle, p, form)
 }

@@ -2,12 +2,18 @@
 ghost use Prim.Native.Nat.{_+_, _*_, _<_, _≤_};
 ghost use lib.ListN.{length};
 ghost use Rattle.circuit.specs.Places.{rowCount};
-ghost use Rattle.listing.specs.Listing.{heldLines, rowLines, termLine};
+ghost use Rattle.circuit.specs.Terms.{termRoom};
+ghost use Rattle.listing.specs.Held.{heldLines};
 ghost use Rattle.listing.specs.Put.{Put};
+ghost use Rattle.listing.specs.Rows.{lineRoom, rowLines, rowRoom, termLine};
+ghost use Rattle.sm3.specs.Message.{mostBits};
 use crate::decimal::put_field;
-use circuit::place::RowNumber;
 use circuit::row::row_terms;
-use circuit::wire::WireNumber;
+use refusal::numbers::RowNumber;
+use refusal::numbers::WireNumber;
+
+// How many bytes the lines of a row take at most: 163 terms, each of a line of at most 65 bytes.
+pub const ROW_ROOM: usize = 163 * 65;
 
 // The line of a term.
 pub fn put_term_line(
@@ -18,8 +24,8 @@ pub fn put_term_line(
     wire: WireNumber,
     coefficient: u64,
 ) -> usize
-    requires { ⌜ at + 65 ≤ length (now out) ⌝ }
-    ensures { λ r. ⌜ Put (now (out .entry)) at (termLine (row .0) part (wire .0) coefficient) (now (out .exit)) r × (r ≤ at + 65) ⌝ }
+    requires { ⌜ at + lineRoom ≤ length (now out) ⌝ }
+    ensures { λ r. ⌜ Put (now (out .entry)) at (termLine (row .0) part (wire .0) coefficient) (now (out .exit)) r × (r ≤ at + lineRoom) ⌝ }
 {
     let a = put_field(out, at, row.0, b',');
     out[a] = part;
@@ -38,8 +44,8 @@ fn put_part(
     from: usize,
     many: usize,
 ) -> usize
-    requires { ⌜ (at + 65 * many ≤ length (now out)) × (2 * (from + many) ≤ length (now terms)) ⌝ }
-    ensures { λ r. ⌜ Put (now (out .entry)) at (heldLines (row .0) part (now (terms .entry)) from many) (now (out .exit)) r × (r ≤ at + 65 * many) ⌝ }
+    requires { ⌜ (at + lineRoom * many ≤ length (now out)) × (2 * (from + many) ≤ length (now terms)) ⌝ }
+    ensures { λ r. ⌜ Put (now (out .entry)) at (heldLines (row .0) part (now (terms .entry)) from many) (now (out .exit)) r × (r ≤ at + lineRoom * many) ⌝ }
 {
     let mut end = at;
     for i in 0..many {
@@ -52,8 +58,8 @@ fn put_part(
 
 // The lines of a row of a record of so many bits. `terms` is room for its terms.
 pub fn put_row(out: &mut [u8], at: usize, bits: u64, row: RowNumber, terms: &mut [u64]) -> usize
-    requires { ⌜ (at + 10595 ≤ length (now out)) × (bits ≤ 8127) × (row .0 < rowCount bits) × (326 ≤ length (now terms)) ⌝ }
-    ensures { λ r. ⌜ Put (now (out .entry)) at (rowLines bits (row .0)) (now (out .exit)) r × (r ≤ at + 10595) ⌝ }
+    requires { ⌜ (at + rowRoom ≤ length (now out)) × (bits ≤ mostBits) × (row .0 < rowCount bits) × (termRoom ≤ length (now terms)) ⌝ }
+    ensures { λ r. ⌜ Put (now (out .entry)) at (rowLines bits (row .0)) (now (out .exit)) r × (r ≤ at + rowRoom) ⌝ }
 {
     let counts = row_terms(bits, row, terms);
     let a = put_part(out, at, row, b'A', terms, 0, counts.a);

@@ -11,7 +11,7 @@ use lib.ListN.{length, set, length-append}
 use Rattle.listing.specs.Decimal.{decimal, digit}
 use Rattle.listing.specs.Put.{Put}
 use Rattle.listing.proofs.Digits.{decimal-low, decimal-high, length-decimal-64}
-use Rattle.listing.proofs.Written.{put-byte, put-then}
+use Rattle.listing.proofs.Put.{put-byte, put-then}
 use Rattle.listing.proofs.decimal.put_decimal.Reads as reads
 use Rattle.listing.proofs.decimal.put_decimal.Kinds as kinds
 use Rattle.listing.proofs.decimal.+put_decimal.Lts-put_decimal as lts

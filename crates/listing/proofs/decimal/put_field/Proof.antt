@@ -2,7 +2,7 @@
 use native.Mathlib.Omega.{arith}
 use borrow.Author.Needs.{needs}
 use Rattle.listing.specs.Decimal.{field}
-use Rattle.listing.proofs.Written.{put-byte, put-then}
+use Rattle.listing.proofs.Put.{put-byte, put-then}
 use Rattle.listing.proofs.decimal.put_field.Statement.{statement}
 use Rattle.listing.proofs.decimal.put_field.Tie as tie
 

@@ -10,7 +10,7 @@ use Rattle.listing.specs.Decimal.{field}
 use Rattle.listing.specs.Line.{ended, fieldOf, parseOf}
 use Rattle.listing.specs.Text.{comma, lineFeed}
 use Rattle.listing.specs.declared.line.Field.the-variants.{Number, Wrong}
-use Rattle.listing.specs.declared.line.Request.the-variants.{Numbers, BadLine}
+use Rattle.listing.specs.declared.line.Parsed.the-variants.{Numbers, Malformed}
 use Rattle.listing.proofs.FieldRight.{field-begins}
 use Rattle.listing.proofs.line.parse.Statement.{statement}
 use Rattle.listing.proofs.line.parse.Tie as tie
@@ -23,12 +23,12 @@ within stop s v m e =
 
 -- the answer, by how far the line can be read
 module _ (s : List ℕ) where
-  no-length : fieldOf comma s ≡ Wrong → parseOf s ≡ BadLine
+  no-length : fieldOf comma s ≡ Wrong → parseOf s ≡ Malformed
   unfolding parseOf
   no-length e = simp e
 
   module _ (l a : ℕ) (first : fieldOf comma s ≡ Number l a) where
-    no-first : fieldOf comma (drop a s) ≡ Wrong → parseOf s ≡ BadLine
+    no-first : fieldOf comma (drop a s) ≡ Wrong → parseOf s ≡ Malformed
     unfolding parseOf
     no-first e = simp (first, e)
 
@@ -36,7 +36,7 @@ module _ (s : List ℕ) where
       within-two : a + b ≤ length s
       within-two = omega (arith, within comma s l a first, within comma (drop a s) f b second, length-drop a s)
 
-      no-many : fieldOf lineFeed (drop (a + b) s) ≡ Wrong → parseOf s ≡ BadLine
+      no-many : fieldOf lineFeed (drop (a + b) s) ≡ Wrong → parseOf s ≡ Malformed
       unfolding parseOf
       no-many e = simp (first, second, drop-drop, e)
 
@@ -48,7 +48,7 @@ module _ (s : List ℕ) where
         unfolding parseOf
         three-read = simp (first, second, drop-drop, third)
 
-        more-after : a + b + c < length s → parseOf s ≡ BadLine
+        more-after : a + b + c < length s → parseOf s ≡ Malformed
         more-after more =
             three-read ∙ ap (λ (t : List ℕ). ended t (Numbers l f h)) (drop-cons s (a + b + c) 0 more)
 

@@ -11,7 +11,7 @@ use borrow.Author.Tests.{not-false, not-true}
 use lib.ListN.{drop, getD, length, drop-of-length-le}
 use lib.Seq.{drop-cons}
 use Rattle.listing.specs.Line.{continues, fieldFrom, fieldOf}
-use Rattle.listing.proofs.Fields.{NextDigit, digit-more, digit-wrong, next-digit, stop-after, stop-first}
+use Rattle.listing.proofs.Fields.{digit-more, digit-wrong, next-digit, stop-after, stop-first}
 use Rattle.listing.proofs.line.read_field.Statement.{statement}
 use Rattle.listing.proofs.line.read_field.Tie as tie
 

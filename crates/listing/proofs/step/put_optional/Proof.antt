@@ -2,7 +2,7 @@
 use native.Mathlib.Omega.{arith}
 use borrow.Author.Needs.{needs}
 use Rattle.listing.specs.Steps.{optional}
-use Rattle.listing.proofs.Written.{put-byte}
+use Rattle.listing.proofs.Put.{put-byte}
 use Rattle.listing.proofs.step.put_optional.Statement.{statement}
 use Rattle.listing.proofs.step.put_optional.Tie as tie
 

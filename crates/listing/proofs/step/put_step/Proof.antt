@@ -5,8 +5,9 @@ use native.Mathlib.Omega.{arith}
 use borrow.Author.Needs.{needs}
 use lib.ListN.{drop}
 use Rattle.circuit.specs.declared.place.Step.{Step}
-use Rattle.listing.specs.Steps.{allSteps, stepPlace, stepText}
-use Rattle.listing.specs.Text.{comma, through}
+use Rattle.listing.specs.Names.{allSteps, stepPlace, through}
+use Rattle.listing.specs.Steps.{stepText}
+use Rattle.listing.specs.Text.{comma}
 use Rattle.listing.proofs.Names.{step-name}
 use Rattle.listing.proofs.step.put_step.Statement.{statement}
 use Rattle.listing.proofs.step.put_step.Tie as tie

@@ -1,16 +1,22 @@
--- The place and the equation are those of the row.
+-- The place and the form are those of the row.
+use mathlib.Core.Path.{subst, sym}
 use native.Mathlib.Omega.{arith}
 use borrow.Author.Needs.{needs}
+use Rattle.circuit.specs.Circuit.{formAt}
+use Rattle.circuit.proofs.place.PlaceRange.{in-record}
+use Rattle.circuit.specs.Ranges.{InRecord}
 use Rattle.listing.specs.Steps.{stepLine}
-use Rattle.listing.proofs.Written.{put-then}
+use Rattle.listing.proofs.Put.{put-then}
 use Rattle.listing.proofs.step.put_step_line.Statement.{statement}
 use Rattle.listing.proofs.step.put_step_line.Tie as tie
 
 place-of-requires : tie.Need-place-of-requires
 place-of-requires c κs = search needs
 
-equation-at-requires : tie.Need-equation-at-requires
-equation-at-requires c κs = search needs
+form-of-requires : tie.Need-form-of-requires
+form-of-requires c κs =
+    let start = c .before .before in
+    (start .pre .1, subst (InRecord _) (sym (c .place-of .ensures)) (in-record _ _ (start .pre .2)))
 
 put-where-requires : tie.Need-put-where-requires
 put-where-requires c κs = search needs
@@ -22,14 +28,14 @@ same-length : tie.Need-same-length
 same-length c = search needs
 
 returns : tie.Need-returns
-unfolding stepLine
+unfolding formAt stepLine
 returns c =
     let second = c .before .before in
     let first = second .before .before .before .before in
-    let equation = first .before .before in
-    let place = equation .before in (
-      put-then (rw (place .place-of .ensures .0) at (first .put-where .ensures .0))
-          (rw (equation .equation-at .ensures, place .place-of .ensures .0) at (second .put-what .ensures .0)),
+    let form = first .before .before in
+    let place = form .before in (
+      put-then (rw (place .place-of .ensures) at (first .put-where .ensures .0))
+          (rw (form .form-of .ensures .0, place .place-of .ensures) at (second .put-what .ensures .0)),
       omega (arith, second .put-what .ensures .1, first .put-where .ensures .1),
     )
 
@@ -38,7 +44,7 @@ put-step-line-spec =
     tie.close
     (tie.spec
     place-of-requires
-    equation-at-requires
+    form-of-requires
     put-where-requires
     put-what-requires
     same-length

@@ -2,7 +2,7 @@
 use native.Mathlib.Omega.{arith}
 use borrow.Author.Needs.{needs}
 use Rattle.listing.specs.Steps.{whereText}
-use Rattle.listing.proofs.Written.{put-then}
+use Rattle.listing.proofs.Put.{put-then}
 use Rattle.listing.proofs.step.put_where.Statement.{statement}
 use Rattle.listing.proofs.step.put_where.Tie as tie
 

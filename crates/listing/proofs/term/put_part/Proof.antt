@@ -5,16 +5,17 @@ use Prim.Native.Nat.{ℕ, _+_, _-_, _*_, _≤_}
 use native.Mathlib.Omega.{arith}
 use borrow.Author.Needs.{needs}
 use lib.ListN.{getD, length}
-use Rattle.listing.specs.Listing.{heldLines, termLine}
+use Rattle.listing.specs.Held.{heldLines}
 use Rattle.listing.specs.Put.{Put}
+use Rattle.listing.specs.Rows.{lineRoom, termLine}
 use Rattle.listing.proofs.Lines.{lines-more, lines-none}
-use Rattle.listing.proofs.Written.{length-put, put-none, put-then}
+use Rattle.listing.proofs.Put.{put-none, put-then}
 use Rattle.listing.proofs.term.put_part.Statement.{statement}
 use Rattle.listing.proofs.term.put_part.Tie as tie
 
 abbrev Inv-loop : tie.InvT-loop
 Inv-loop out₀ at row part terms from many end₀ i₀ out end i =
-    (i ≤ many) × (end ≤ at + 65 * i) × (length out ≡ length out₀) × Put out₀ at (heldLines (row .0) part terms from i) out end
+    (i ≤ many) × (end ≤ at + lineRoom * i) × (length out ≡ length out₀) × Put out₀ at (heldLines (row .0) part terms from i) out end
 
 abbrev μ-loop : tie.MeasureT-loop
 μ-loop out₀ at row part terms from many end₀ i₀ out end i = many - i

@@ -4,10 +4,11 @@ use Prim.Native.Nat.{_+_}
 use native.Mathlib.Omega.{arith}
 use borrow.Author.Needs.{needs}
 use lib.ListN.{length}
+use Rattle.circuit.proofs.terms.WrittenTerms.{filled-front}
 use Rattle.circuit.specs.Circuit.{rowAt}
-use Rattle.listing.specs.Listing.{rowLines}
+use Rattle.listing.specs.Rows.{rowLines}
 use Rattle.listing.proofs.HeldLines.{held-A, held-B, held-C}
-use Rattle.listing.proofs.Written.{put-then}
+use Rattle.listing.proofs.Put.{put-then}
 use Rattle.listing.proofs.term.put_row.Statement.{statement}
 use Rattle.listing.proofs.term.put_row.Tie as tie
 
@@ -44,13 +45,13 @@ returns c =
     let counts = filled .row-terms .result in
     let is = filled .row-terms .ensures in
     let r = rowAt (args .bits) (args .row .0) in
-    let n = counts .a + counts .b + counts .c in
+    let whole = filled-front is (omega (arith, is .few, filled .before .before .before .before .pre)) in
     let place : counts .a + counts .b ≡ length (r .A) + length (r .B) = omega (arith, is .a, is .b) in (
       put-then
           (put-then
-          (rw (held-A r held n (is .front) (args .row .0) 65 (counts .a) (is .a)) at (first .put-part .ensures .0))
-          (rw (held-B r held n (is .front) (args .row .0) 66 (counts .a) (counts .b) (is .a) (is .b)) at (second .put-part2 .ensures .0)))
-          (rw (held-C r held n (is .front) (args .row .0) 67 (counts .a + counts .b) (counts .c) place (is .c)) at (third .put-part3 .ensures .0)),
+          (rw (held-A r held _ whole (args .row .0) 65 (counts .a) (is .a)) at (first .put-part .ensures .0))
+          (rw (held-B r held _ whole (args .row .0) 66 (counts .a) (counts .b) (is .a) (is .b)) at (second .put-part2 .ensures .0)))
+          (rw (held-C r held _ whole (args .row .0) 67 (counts .a + counts .b) (counts .c) place (is .c)) at (third .put-part3 .ensures .0)),
       omega (arith, third .put-part3 .ensures .1, second .put-part2 .ensures .1, first .put-part .ensures .1, is .few),
     )
 

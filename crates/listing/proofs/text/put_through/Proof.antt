@@ -10,8 +10,8 @@ use borrow.Author.Tests.{eq-eqb, ne-eqb}
 use lib.ListN.{length, drop, getD, set, length-append, drop-of-length-le}
 use lib.Seq.{drop-cons}
 use Rattle.listing.specs.Put.{Put}
-use Rattle.listing.specs.Text.{through}
-use Rattle.listing.proofs.Written.{length-put, put-byte, put-none, put-then}
+use Rattle.listing.specs.Names.{through}
+use Rattle.listing.proofs.Put.{length-put, put-byte, put-none, put-then}
 use Rattle.listing.proofs.text.put_through.Statement.{statement}
 use Rattle.listing.proofs.text.put_through.Tie as tie
 

@@ -1,0 +1,61 @@
+-- What was read lies within the buffer.
+use mathlib.Core.Path.{sym}
+use Prim.Native.Nat.{_≤_}
+use native.Mathlib.Omega.{arith}
+use borrow.Author.Needs.{needs}
+use lib.ListN.{length}
+use lib.Seq.{length-take-le}
+use Rattle.listing.proofs.program.run.Statement.{statement}
+use Rattle.listing.proofs.program.run.Tie as tie
+
+slice-aggregate-read-input : tie.Need-slice-aggregate-read-input
+slice-aggregate-read-input c = search needs
+
+read-input-requires : tie.Need-read-input-requires
+read-input-requires c κs = search needs
+
+enum-known-n : tie.Need-enum-known-n
+enum-known-n c = search needs
+
+enum-told : tie.Need-enum-told
+enum-told c = search needs
+
+slice-aggregate-write-all : tie.Need-slice-aggregate-write-all
+slice-aggregate-write-all c = search needs
+
+write-all-requires : tie.Need-write-all-requires
+write-all-requires c κs = search needs
+
+returns : tie.Need-returns
+returns c = search needs
+
+within : (c : tie.After-known-told) → c .before .n .given .0 .0 ≤ length (c .before .before .before .before .read-input .last .0)
+within c = c .before .before .before .before .read-input .ensures (c .before .n .given .0 .0) (c .before .n .given .1)
+
+array-share-prefix-space : tie.Need-array-share-prefix-space
+array-share-prefix-space c = omega (arith, within c)
+
+slice-aggregate-print-listing : tie.Need-slice-aggregate-print-listing
+slice-aggregate-print-listing c = sym (length-take-le _ _ (within (c .before)))
+
+print-listing-requires : tie.Need-print-listing-requires
+print-listing-requires c κs = search needs
+
+returns-2 : tie.Need-returns-2
+returns-2 c = search needs
+
+pub run-spec : {M : Type 1} → statement M
+run-spec =
+    tie.close
+    (tie.spec
+    slice-aggregate-read-input
+    read-input-requires
+    enum-known-n
+    enum-told
+    slice-aggregate-write-all
+    write-all-requires
+    returns
+    array-share-prefix-space
+    slice-aggregate-print-listing
+    print-listing-requires
+    returns-2)

@@ -1,0 +1,27 @@
+-- What `rows` prints of a row (document 01, "What `rows` prints"): `row,part,wire,coefficient`.
+use mathlib.Core.List.{List, [], _∷_, _++_}
+use Prim.Native.Nat.{ℕ, _*_}
+use Rattle.circuit.specs.Circuit.{rowAt}
+use Rattle.circuit.specs.Shape.{mostTerms}
+use Rattle.circuit.specs.declared.form.Term.{Term}
+use Rattle.listing.specs.Decimal.{field}
+use Rattle.listing.specs.Text.{comma, lineFeed}
+
+-- "then a line a term"
+unfoldable pub termLine : ℕ → ℕ → ℕ → ℕ → List ℕ
+termLine row part wire coefficient = field row comma ++ (part ∷ comma ∷ []) ++ field wire comma ++ field coefficient lineFeed
+
+unfoldable pub partLines : ℕ → ℕ → List Term → List ℕ
+partLines row part [] = []
+partLines row part (t ∷ ts) = termLine row part (t .wire .0) (t .coefficient) ++ partLines row part ts
+
+-- the lines of row k of a record of n bits: the terms of A, of B and of C
+unfoldable pub rowLines : ℕ → ℕ → List ℕ
+rowLines n k = partLines k 65 (rowAt n k .A) ++ partLines k 66 (rowAt n k .B) ++ partLines k 67 (rowAt n k .C)
+
+-- how many bytes the line of a term takes at most, and the lines of a row
+abbrev pub lineRoom : ℕ
+lineRoom = 65
+
+abbrev pub rowRoom : ℕ
+rowRoom = mostTerms * lineRoom
