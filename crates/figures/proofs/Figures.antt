@@ -1,14 +1,20 @@
 -- Every figure of the table is the one that the paper states: both columns compute to the same numbers.
 use mathlib.Core.List.{map}
 use mathlib.Core.Path.{_≡_, refl}
+use Rattle.assignment.specs.Assignment.{entry}
+use Rattle.assignment.specs.Check.{checkAnswer}
 use Rattle.circuit.specs.Layout.{wireCount}
 use Rattle.circuit.specs.Places.{rowCount}
 use Rattle.circuit.specs.RowAnswer.{rowAnswer}
+use Rattle.encoding.specs.Bytes.{fromLeastFirst, leastFirst}
+use Rattle.encoding.specs.Sequence.{tab}
 use Rattle.figures.specs.Figures.{Figure, table}
+use Rattle.listing.specs.Line.{continues, fieldFrom, fieldOf, parseOf}
+use Rattle.listing.specs.Request.{checked, requestOf}
 use Rattle.sm3.specs.Message.{blocks}
 use Rattle.sm3.specs.Sm3.{P0, P1, constant, rotatedConstant}
 use Rattle.sm3.specs.Words.{rotateLeft}
 
 pub figures : map (λ (f : Figure). f .computed) table ≡ map (λ (f : Figure). f .stated) table
-unfolding blocks wireCount rowCount rowAnswer P0 P1 rotatedConstant constant rotateLeft
+unfolding blocks wireCount rowCount rowAnswer checkAnswer entry leastFirst fromLeastFirst tab P0 P1 rotatedConstant constant rotateLeft requestOf checked parseOf fieldOf fieldFrom continues
 figures = refl

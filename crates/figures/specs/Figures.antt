@@ -2,11 +2,18 @@
 -- definitions are the ones that the contracts cite.
 use mathlib.Core.List.{List, [], _∷_}
 use Prim.Native.Nat.{ℕ, _-_, _*_, _^_}
+use Rattle.assignment.specs.Assignment.{entry}
+use Rattle.assignment.specs.Check.{checkAnswer}
+use Rattle.assignment.specs.Produce.{produceAnswer}
 use Rattle.circuit.specs.Layout.{wireCount}
 use Rattle.circuit.specs.Places.{rowCount}
-use Rattle.circuit.specs.RowAnswer.{rowAnswer, rowNumber}
-use Rattle.field.specs.Field.{p, residue}
-use Rattle.sm3.specs.Digest.{digestAnswer, digestNumber}
+use Rattle.circuit.specs.RowAnswer.{rowAnswer, rowBytes, rowNumber}
+use Rattle.encoding.specs.Bytes.{leastFirst}
+use Rattle.field.specs.Field.{p}
+use Rattle.listing.specs.Request.{requestNumber, requestOf}
+use Rattle.listing.specs.Text.{ascii}
+use Rattle.refusal.specs.Refusals.{outcomeNumber}
+use Rattle.sm3.specs.Digest.{digestAnswer}
 use Rattle.sm3.specs.Message.{blocks}
 use Rattle.sm3.specs.Sm3.{P0, P1, rotatedConstant}
 
@@ -27,18 +34,21 @@ table =
     ∷ (blocks (8 * 119) is 2)
     ∷ (blocks (8 * 120) is 3)
     ∷ (blocks (8 * 1015) is 16)
-    -- "L 1,016 is refusal 2"
-    ∷ (digestNumber (digestAnswer 1016 32) is 2)
-    ∷ (rowNumber (rowAnswer 1016 0 1956) is 2)
+    -- "L 1,016 is refusal 2", of every operation, the digest, a row, the assignment and the check, and of the program's line
+    ∷ (outcomeNumber (digestAnswer 1016 32) is 2)
+    ∷ (rowNumber (rowAnswer 1016 0 rowBytes) is 2)
+    ∷ (outcomeNumber (produceAnswer 1016 (8 * wireCount (8 * 1016))) is 2)
+    ∷ (outcomeNumber (checkAnswer 1016 (leastFirst 32 0) []) is 2)
+    ∷ (requestNumber (requestOf (ascii "1016,0,0\n")) is 2)
     -- "L 0 has 23,041 wires and 32,832 rows; L 1,015 has 360,961 and 517,632"
     ∷ (wireCount (8 * 0) is 23041)
     ∷ (rowCount (8 * 0) is 32832)
     ∷ (wireCount (8 * 1015) is 360961)
     ∷ (rowCount (8 * 1015) is 517632)
     -- "2^60 × 2 reads as 1; entry p reads as 0; entry 2^64 - 1 reads as 7"
-    ∷ (residue (2 ^ 60 * 2) is 1)
-    ∷ (residue p is 0)
-    ∷ (residue (2 ^ 64 - 1) is 7)
+    ∷ (entry (leastFirst 8 (2 ^ 60 * 2)) 0 is 1)
+    ∷ (entry (leastFirst 8 p) 0 is 0)
+    ∷ (entry (leastFirst 8 (2 ^ 64 - 1)) 0 is 7)
     -- "P0(1) = 00020201; P1(1) = 00808001 (hexadecimal)"
     ∷ (P0 1 is 0x00020201)
     ∷ (P1 1 is 0x00808001)

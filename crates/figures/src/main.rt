@@ -8,10 +8,18 @@
 // The rows are document 01's, each a line: the refusal's number, 0 for none, the counts of A, B and C, and three terms,
 // each a wire and a coefficient. Row 256 fixes wire 513 to 1 at L 0; at L 1 it is a bit row, with p - 1 on wire 0 in B; row
 // 32,576 at L 0 has wires 1 (1) and 22,785 (p - 1) in A; row 32,832 at L 0 is refusal 3.
-ghost use Prim.Native.Nat.{_≤_, _<_, _^_};
+ghost use Prim.Native.Nat.{_+_, _≤_};
+ghost use Rattle.circuit.specs.RowAnswer.{rowBytes};
+ghost use Rattle.sm3.specs.Message.{longest};
+use circuit::row::ROW_BYTES;
 use circuit::row::RowAnswer;
 use circuit::row::row;
+use encoding::read::eight_bytes;
+use encoding::read::four_bytes;
 use libc::STDOUT_FILENO;
+use refusal::numbers::RowNumber;
+use refusal::outcome::number_of;
+use sm3::message::LONGEST;
 
 // The hexadecimal digit of a number's lowest four bits.
 fn hex_digit(x: u8) -> u8 {
@@ -38,10 +46,10 @@ fn show(bytes: &[u8]) {
 
 // The record of n bytes whose byte k is k mod 251.
 fn show_counted(n: usize)
-    requires { ⌜ n ≤ 1015 ⌝ }
+    requires { ⌜ n ≤ longest ⌝ }
 {
-    let mut bytes = [0u8; 1015];
-    for k in 0..1015 {
+    let mut bytes = [0u8; LONGEST as usize];
+    for k in 0..LONGEST as usize {
         bytes[k] = (k % 251) as u8;
     }
     show(&bytes[..n]);
@@ -53,34 +61,16 @@ fn print_number(x: u64) {
     io::write_all(STDOUT_FILENO, b" ");
 }
 
-// A byte as a number.
-fn wide(x: u8) -> u64
-    ensures { λ r. ⌜ r < 256 ⌝ }
-{
-    x as u64
-}
-
-// The number in four bytes from `at` on, least byte first.
-fn four_bytes(bytes: &[u8; 1956], at: usize) -> u64
-    requires { ⌜ at < 1900 ⌝ }
-    ensures { λ r. ⌜ r < 2 ^ 32 ⌝ }
-{
-    wide(bytes[at])
-        + wide(bytes[at + 1]) * 256
-        + wide(bytes[at + 2]) * 65536
-        + wide(bytes[at + 3]) * 16777216
-}
-
 // The wire and the coefficient of the term in twelve bytes from `at` on.
-fn print_term(bytes: &[u8; 1956], at: usize)
-    requires { ⌜ at < 1800 ⌝ }
+fn print_term(bytes: &[u8; ROW_BYTES], at: usize)
+    requires { ⌜ at + 12 ≤ rowBytes ⌝ }
 {
     print_number(four_bytes(bytes, at));
-    print_number(four_bytes(bytes, at + 4) + four_bytes(bytes, at + 8) * 4294967296);
+    print_number(eight_bytes(bytes, at + 4));
 }
 
 // The counts of a row and its first three terms.
-fn print_row(a: u64, b: u64, c: u64, bytes: &[u8; 1956]) {
+fn print_row(a: u64, b: u64, c: u64, bytes: &[u8; ROW_BYTES]) {
     print_number(0);
     print_number(a);
     print_number(b);
@@ -92,13 +82,11 @@ fn print_row(a: u64, b: u64, c: u64, bytes: &[u8; 1956]) {
 
 // The row of a number for a record of `size` bytes: the refusal's number, or 0, the counts and three terms.
 fn show_row(size: u64, number: u64) {
-    let mut out = [0u8; 1956];
-    let answer = row(size, number, &mut out);
+    let mut out = [0u8; ROW_BYTES];
+    let answer = row(size, RowNumber(number), &mut out);
     match answer {
         RowAnswer::Given { a, b, c } => print_row(a, b, c, &out),
-        RowAnswer::LengthAboveLimit => print_number(2),
-        RowAnswer::RowOutOfRange => print_number(3),
-        RowAnswer::BufferTooShort => print_number(4),
+        RowAnswer::Refused(refusal) => print_number(number_of(refusal)),
     }
     io::write_all(STDOUT_FILENO, b"\n");
 }

@@ -1,0 +1,152 @@
+// An assignment that is accepted, with one thing changed at a time, and the check after each change.
+ghost use mathlib.Core.Path.{_≡_};
+ghost use Prim.Native.Nat.{_+_, _*_, _<_, _≤_};
+ghost use lib.ListN.{length};
+ghost use Rattle.circuit.specs.Layout.{wireCount};
+ghost use Rattle.circuit.specs.Wires.{firstBlock, wiresPerBlock};
+ghost use Rattle.sm3.specs.Message.{longest, mostBits};
+use crate::line::show;
+use assignment::check::check;
+use assignment::entry::raw;
+use assignment::entry::read;
+use assignment::wires::put_entry;
+use circuit::wire::BLOCK_WIRES;
+use circuit::wire::DIGEST;
+use circuit::wire::ROUND_WIDTH;
+use circuit::wire::ROUNDS;
+use circuit::wire::START;
+use circuit::wire::TT2;
+use circuit::wire::block_first;
+use field::P;
+use refusal::numbers::WireNumber;
+use sm3::message::LONGEST;
+use sm3::message::block_count;
+
+// The check of an assignment with the entry of wire w set to v. The entry is then as it was.
+fn disturb(size: u64, what: &[u8], digest: &[u8], assignment: &mut [u8], w: WireNumber, v: u64)
+    requires { ⌜ 8 * (w .0 + 1) ≤ length (now assignment) ⌝ }
+{
+    let held = raw(assignment, w);
+    put_entry(assignment, w, v);
+    show(size, what, check(size, digest, assignment));
+    put_entry(assignment, w, held);
+}
+
+// The same with the entry of wire w changed from 0 to 1, or from 1 to 0.
+fn change(size: u64, what: &[u8], digest: &[u8], assignment: &mut [u8], w: WireNumber)
+    requires { ⌜ 8 * (w .0 + 1) ≤ length (now assignment) ⌝ }
+{
+    let v = 1 - read(assignment, w) % 2;
+    disturb(size, what, digest, assignment, w, v);
+}
+
+// The wire of bit k of the message of a record of so many bits: a bit of the record, or the first of its padding.
+fn message_wire(bits: u64, k: u64) -> WireNumber
+    requires { ⌜ (bits ≤ mostBits) × (k ≤ bits) ⌝ }
+    ensures { λ r. ⌜ r .0 < wireCount bits ⌝ }
+{
+    let first = block_first(k / 512);
+    WireNumber(first.0 + k % 512)
+}
+
+// The first wire of the last block of a record of so many bits.
+fn last_block(bits: u64) -> WireNumber
+    requires { ⌜ bits ≤ mostBits ⌝ }
+    ensures { λ r. ⌜ r .0 + wiresPerBlock ≡ wireCount bits ⌝ }
+{
+    block_first(block_count(bits) - 1)
+}
+
+// Wires before the blocks: wire 0, the first of the digest and the first of the start words.
+fn change_frame(size: u64, digest: &[u8], assignment: &mut [u8])
+    requires { ⌜ 8 * firstBlock ≤ length (now assignment) ⌝ }
+{
+    change(size, b"one", digest, assignment, WireNumber(0));
+    change(size, b"digest", digest, assignment, WireNumber(DIGEST));
+    change(size, b"start", digest, assignment, WireNumber(START));
+}
+
+// Wires of the message: the padding's first bit, and the record's last where it has one.
+fn change_message(size: u64, digest: &[u8], assignment: &mut [u8])
+    requires { ⌜ (size ≤ longest) × (length (now assignment) ≡ 8 * wireCount (8 * size)) ⌝ }
+{
+    let bits = 8 * size;
+    let padding = message_wire(bits, bits);
+    change(size, b"padding", digest, assignment, padding);
+    if size == 0 {
+        return;
+    }
+    let record = message_wire(bits, bits - 1);
+    change(size, b"record", digest, assignment, record);
+}
+
+// Wires of the last block: a carry of its last round, and the last wire of its result.
+fn change_last_block(size: u64, digest: &[u8], assignment: &mut [u8])
+    requires { ⌜ (size ≤ longest) × (length (now assignment) ≡ 8 * wireCount (8 * size)) ⌝ }
+{
+    let last = last_block(8 * size);
+    let carry = last.0 + ROUNDS + ROUND_WIDTH * 63 + TT2 + 33;
+    change(size, b"carry", digest, assignment, WireNumber(carry));
+    disturb(size, b"two", digest, assignment, WireNumber(carry), 2);
+    let result = last.0 + BLOCK_WIRES - 1;
+    change(size, b"result", digest, assignment, WireNumber(result));
+}
+
+// A digest with another first bit.
+fn other_digest(digest: [u8; 32]) -> [u8; 32]
+    ensures { λ r. ⌜ length r ≡ 32 ⌝ }
+{
+    let mut other = digest;
+    other[0] = other[0] ^ 128;
+    other
+}
+
+// Another digest held against the assignment, as it is and with the digest's first wire changed too.
+fn change_digest(size: u64, digest: [u8; 32], assignment: &mut [u8])
+    requires { ⌜ 8 * firstBlock ≤ length (now assignment) ⌝ }
+{
+    let other = other_digest(digest);
+    show(size, b"other", check(size, &other, assignment));
+    change(size, b"both", &other, assignment, WireNumber(DIGEST));
+}
+
+// Some bytes without the last.
+fn all_but_last(bytes: &[u8]) -> &[u8]
+    requires { ⌜ 1 ≤ length (now bytes) ⌝ }
+{
+    let n = bytes.len() - 1;
+    &bytes[..n]
+}
+
+// A length above the limit, and a digest and an assignment that lack a byte.
+fn change_lengths(size: u64, digest: &[u8], assignment: &[u8])
+    requires { ⌜ (1 ≤ length (now digest)) × (1 ≤ length (now assignment)) ⌝ }
+{
+    show(size, b"length", check(LONGEST + 1, digest, assignment));
+    let digest31 = check(size, all_but_last(digest), assignment);
+    show(size, b"digest31", digest31);
+    let short = check(size, digest, all_but_last(assignment));
+    show(size, b"short", short);
+}
+
+// p added to every entry.
+fn add_p(assignment: &mut [u8]) {
+    let n = assignment.len() as u64 / 8;
+    for w in 0..n {
+        let v = P + read(assignment, WireNumber(w));
+        put_entry(assignment, WireNumber(w), v);
+    }
+}
+
+// Every change to an assignment that is accepted, and the check after each.
+pub fn change_all(size: u64, digest: [u8; 32], assignment: &mut [u8])
+    requires { ⌜ (size ≤ longest) × (length digest ≡ 32) × (length (now assignment) ≡ 8 * wireCount (8 * size)) × (8 * firstBlock ≤ length (now assignment)) ⌝ }
+{
+    change_frame(size, &digest, assignment);
+    change_message(size, &digest, assignment);
+    change_last_block(size, &digest, assignment);
+    change_digest(size, digest, assignment);
+    change_lengths(size, &digest, assignment);
+    add_p(assignment);
+    show(size, b"plus_p", check(size, &digest, assignment));
+}

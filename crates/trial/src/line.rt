@@ -1,0 +1,34 @@
+// The line that a check prints.
+use libc::STDOUT_FILENO;
+use refusal::outcome::Outcome;
+use refusal::outcome::Refusal;
+use refusal::outcome::number_of;
+
+// The number of a refusal, and the row that it names.
+fn print_refusal(refusal: Refusal) {
+    io::print_decimal(STDOUT_FILENO, number_of(refusal));
+    if let Refusal::Unsatisfied(row) = refusal {
+        io::write_all(STDOUT_FILENO, b",");
+        io::print_decimal(STDOUT_FILENO, row.0);
+    }
+}
+
+// The number of an outcome, 0 where nothing is refused.
+fn print_outcome(outcome: Outcome) {
+    match outcome {
+        Outcome::Done => {
+            io::print_decimal(STDOUT_FILENO, 0);
+        }
+        Outcome::Refused(refusal) => print_refusal(refusal),
+    }
+}
+
+// The line of a check: the record's length, what was done, the refusal's number, and the row where it names one.
+pub fn show(size: u64, what: &[u8], outcome: Outcome) {
+    io::print_decimal(STDOUT_FILENO, size);
+    io::write_all(STDOUT_FILENO, b",");
+    io::write_all(STDOUT_FILENO, what);
+    io::write_all(STDOUT_FILENO, b",");
+    print_outcome(outcome);
+    io::write_all(STDOUT_FILENO, b"\n");
+}
