@@ -14,8 +14,8 @@ export CARGO_TARGET_DIR="$root/target/judge"
 out=${BENCH_OUT:-$root/target/bench}
 mkdir -p "$out"
 
-echo 'int main(void) { return 0; }' | gcc -x c - -lcrypto -o /dev/null 2> /dev/null ||
-    { apt-get update && apt-get install -y gcc libssl-dev; } > /dev/null
+{ echo 'int main(void) { return 0; }' | gcc -x c - -lcrypto -o /dev/null && command -v python3; } > /dev/null 2>&1 ||
+    { apt-get update && apt-get install -y gcc libssl-dev python3; } > /dev/null
 
 cargo build --quiet --release -j1 --manifest-path "$root/bench/Cargo.toml"
 program=${ROWS_PROGRAM:-$root/target/bin/rows}

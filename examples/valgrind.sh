@@ -3,7 +3,7 @@
 set -eu
 
 root=$(cd "$(dirname "$0")/.." && pwd)
-command -v valgrind > /dev/null || apt-get install -y valgrind
+command -v valgrind > /dev/null || { apt-get update && apt-get install -y valgrind; } > /dev/null
 
 "$root/examples/run.sh" > /dev/null
 for record in "" "a" "$(printf '%055d' 7)" "$(printf '%056d' 7)" "$(printf '%01015d' 7)"; do

@@ -15,15 +15,15 @@
  *   7  wire 0 does not read as 1
  *   8  a digest wire does not read as its bit of the digest
  *   9  a row is not satisfied
- * (1 is a refusal of the program `rows` alone.)
+ * (1 is a refusal of the programs `rows` and `steps` alone.)
  *
  * What the host owes:
- *   - A pointer and the length after it are a slice of memory that the host may read, and write where it is `out`.
- *   - Slices of one call do not overlap.
- *   - An empty slice may be null: its pointer is not used.
- *   - Nobody writes a slice while it is lent, and nobody reads `out` until the call has returned.
+ *   - A pointer and the length after it are a slice: bytes that may be read, and written where the slice is `out`.
+ *   - `out` overlaps no other slice of the same call.
+ *   - Until the call has returned nobody else writes a slice that is lent to it, and nobody else reads `out`.
  *   - Stack: 4 KiB below the call are enough (bench/stack.sh measures it: 3,176 bytes at most).
- * Slices may begin at any address. Calls keep nothing: any number of threads may call at once. */
+ * What it need not see to: a slice may begin at any address; an empty one may be null; slices that are only read may
+ * overlap, in one call and between calls; calls keep nothing, so any number of threads may call at once. */
 
 #ifndef SM3ROWS_H
 #define SM3ROWS_H

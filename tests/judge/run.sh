@@ -1,34 +1,44 @@
 #!/bin/sh
-# Compares libsm3rows.a with the judge and with OpenSSL, through the C interface.
+# Compares libsm3rows.a and the programs `rows` and `steps` with the judge, and the digest with OpenSSL's too.
 #
 #   tests/judge/run.sh [--short] [--seed N]      for the gate: a minute at most on two cores
 #   tests/judge/run.sh --full [--seed N]
 #   tests/judge/run.sh --soak MINUTES [--seed N]
+#   tests/judge/run.sh --tests                   the judge's own tests and those of the comparison
 #
 # SM3ROWS_LIB names the archive; without it, it is the one that `rt staticlib sm3rows` writes. ROWS_PROGRAM and
-# STEPS_PROGRAM name the programs `rows` and `steps`; without them, they are target/bin/rows and target/bin/steps, and a
-# program that is missing there is left out.
+# STEPS_PROGRAM name the programs; without them, they are the ones that `rt check rows steps` writes. All three must be
+# there.
 set -eu
+
+# present FILE COMMAND: the file is there; the command would write it.
+present() {
+    [ -f "$1" ] || { echo "no $1: run '$2' first" >&2; exit 1; }
+}
 
 root=$(cd "$(dirname "$0")/../.." && pwd)
 SM3ROWS_LIB=${SM3ROWS_LIB:-$root/target/staticlib/libsm3rows.a}
-[ -f "$SM3ROWS_LIB" ] || { echo "no archive: run 'rt staticlib sm3rows' first" >&2; exit 1; }
+rows=${ROWS_PROGRAM:-$root/target/bin/rows}
+steps=${STEPS_PROGRAM:-$root/target/bin/steps}
+present "$SM3ROWS_LIB" "rt staticlib sm3rows"
+present "$rows" "rt check rows"
+present "$steps" "rt check steps"
 export SM3ROWS_LIB
 export CARGO_TARGET_DIR="$root/target/judge"
 
-# libcrypto's development files.
+# A C compiler and libcrypto's development files.
 echo 'int main(void) { return 0; }' | ${CC:-cc} -x c - -lcrypto -o /dev/null 2> /dev/null ||
-    { apt-get update && apt-get install -y libssl-dev; } > /dev/null
+    { apt-get update && apt-get install -y gcc libssl-dev; } > /dev/null
 
-cargo build --quiet --release -j1 --manifest-path "$root/tests/judge/Cargo.toml" -p compare
+manifest=$root/tests/judge/Cargo.toml
+if [ "${1:-}" = --tests ]; then
+    exec cargo test --quiet --release -j1 --manifest-path "$manifest" -p judge -p compare --all-targets
+fi
+cargo build --quiet --release -j1 --manifest-path "$manifest" -p compare
 
 # No call takes long; a library that hangs must not hang the gate.
 case " $* " in
 *" --full "* | *" --soak "*) limit=7200 ;;
 *) limit=300 ;;
 esac
-rows=${ROWS_PROGRAM:-$root/target/bin/rows}
-[ -x "$rows" ] && set -- "$@" --rows "$rows"
-steps=${STEPS_PROGRAM:-$root/target/bin/steps}
-[ -x "$steps" ] && set -- "$@" --steps "$steps"
-exec timeout "$limit" "$CARGO_TARGET_DIR/release/compare" "$@"
+exec timeout "$limit" "$CARGO_TARGET_DIR/release/compare" --rows "$rows" --steps "$steps" "$@"

@@ -28,7 +28,7 @@ fn assert_refused(line: &[u8], refusal: &str) {
 
 #[test]
 fn lines_that_are_refusal_1() {
-    let lines: [&[u8]; 32] = [
+    let lines: [&[u8]; 36] = [
         b"",
         b"\n",
         b"0,0,2",
@@ -61,6 +61,11 @@ fn lines_that_are_refusal_1() {
         b"0,0\n,2\n",
         b"0,0,\xb2\n",
         b"01,0,2\n",
+        // The faults of refusals 2 and 3 besides.
+        b"1016,0,0",
+        b"1016,00,0\n",
+        b"0,32833,0\n\n",
+        b"1016,999999999,1000000000\n",
     ];
     for line in lines {
         assert_refused(line, "refused,1\n");
@@ -82,6 +87,7 @@ fn refusals_2_and_3() {
         "0,0,32833\n",
         "0,32833,0\n",
         "1015,517632,1\n",
+        "1015,517631,2\n",
         "1015,999999999,999999999\n",
     ] {
         assert_refused(line.as_bytes(), "refused,3\n");

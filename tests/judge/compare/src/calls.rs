@@ -160,6 +160,22 @@ impl Calls {
         }
     }
 
+    /// The check of an assignment against 32 of its own bytes.
+    pub fn check_own_bytes(&mut self, table: &RowTable, length: Length, bytes: &[u8], at: usize) {
+        let what = format!(
+            "length {}, the digest is the assignment's bytes from {at} on",
+            length.bytes()
+        );
+        let lent = Lent::holding(bytes, &mut self.random);
+        let before = lent.clone();
+        let (digest, assignment) = (&lent.slice()[at..at + 32], lent.slice());
+        let judged = check_with(table, length, assignment, digest);
+        let answer = host::check(Empty::Null, length.bytes() as u64, digest, assignment);
+        self.answers(Operation::Check, packing::plain(judged), answer, &what);
+        self.memory(Operation::Check, "assignment", &before, &lent, &what);
+        self.tally.count("checks with slices that overlap", 1);
+    }
+
     /// States a refusal's number that the judge's own answer must have too:
     /// a slip of the judge in the order of refusals would show here.
     pub fn must_be(&mut self, number: u8, judged: Result<(), Refusal>, what: &str) {

@@ -61,6 +61,14 @@ impl Claim {
         self.assignment[8 * wire..8 * wire + 8].copy_from_slice(&value.to_le_bytes());
     }
 
+    /// The digest wires take the digest's bits.
+    pub fn set_digest_wires(&mut self) {
+        for number in 0..256 {
+            let bit = self.digest[number / 8] >> (7 - number % 8) & 1;
+            self.set(1 + number, u64::from(bit));
+        }
+    }
+
     /// Adds a random multiple of p to every entry, up to what 8 bytes hold;
     /// a bit may take 0 to 8 times p.
     pub fn shift(&mut self, random: &mut Random) {

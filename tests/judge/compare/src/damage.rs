@@ -154,10 +154,7 @@ fn digest_bytes(_: &Ground, claim: &mut Claim, random: &mut Random) {
     }
     claim.note += ", digest changed";
     if random.one_in(2) {
-        for number in 0..256 {
-            let bit = claim.digest[number / 8] >> (7 - number % 8) & 1;
-            claim.set(1 + number, u64::from(bit));
-        }
+        claim.set_digest_wires();
         claim.note += " and its wires with it";
     }
 }

@@ -1,7 +1,7 @@
 //! Compares the C library libsm3rows.a with the judge and with OpenSSL, and
-//! the programs `rows` and `steps`, where they are given, with the judge.
+//! the programs `rows` and `steps` with the judge.
 //!
-//! `compare [--short | --full] [--seed N] [--threads N] [--rows FILE] [--steps FILE]`
+//! `compare --rows FILE --steps FILE [--short | --full] [--seed N] [--threads N]`
 //! `compare --soak MINUTES [--seed N]`
 //!
 //! Leaves with 0 when nothing differs, with 1 when something does, with 2
@@ -31,44 +31,59 @@ use std::time::{Duration, Instant};
 
 use calls::Calls;
 use plan::{Amounts, Job};
+use program::Program;
 use tally::{Tally, TOLD};
 
 const USAGE: &str =
-    "usage: compare [--short | --full] [--seed N] [--threads N] [--rows FILE] [--steps FILE]
+    "usage: compare --rows FILE --steps FILE [--short | --full] [--seed N] [--threads N]
        compare --soak MINUTES [--seed N]";
 
+/// The form: a comparison, which needs the programs, or the soak.
+enum Form {
+    Compare {
+        full: bool,
+        rows: PathBuf,
+        steps: PathBuf,
+    },
+    Soak(Duration),
+}
+
 struct Options {
-    full: bool,
-    soak: Option<f64>,
+    form: Form,
     seed: u64,
     threads: usize,
-    rows: Option<PathBuf>,
-    steps: Option<PathBuf>,
 }
 
 fn options(arguments: &[String]) -> Option<Options> {
-    let mut options = Options {
-        full: false,
-        soak: None,
-        seed: 1,
-        threads: thread::available_parallelism().map_or(1, |n| n.get()),
-        rows: None,
-        steps: None,
-    };
+    let (mut full, mut minutes, mut seed) = (false, None, 1);
+    let (mut rows, mut steps) = (None, None);
+    let mut threads = thread::available_parallelism().map_or(1, |n| n.get());
     let mut words = arguments.iter().map(String::as_str);
     while let Some(word) = words.next() {
         match word {
-            "--short" => options.full = false,
-            "--full" => options.full = true,
-            "--soak" => options.soak = Some(words.next()?.parse().ok()?),
-            "--seed" => options.seed = words.next()?.parse().ok()?,
-            "--threads" => options.threads = words.next()?.parse().ok()?,
-            "--rows" => options.rows = Some(words.next()?.into()),
-            "--steps" => options.steps = Some(words.next()?.into()),
+            "--short" => full = false,
+            "--full" => full = true,
+            "--soak" => minutes = Some(words.next()?.parse::<f64>().ok()?),
+            "--seed" => seed = words.next()?.parse().ok()?,
+            "--threads" => threads = words.next()?.parse().ok()?,
+            "--rows" => rows = Some(words.next()?.into()),
+            "--steps" => steps = Some(words.next()?.into()),
             _ => return None,
         }
     }
-    Some(options)
+    let form = match minutes {
+        Some(minutes) => Form::Soak(Duration::try_from_secs_f64(60.0 * minutes).ok()?),
+        None => Form::Compare {
+            full,
+            rows: rows?,
+            steps: steps?,
+        },
+    };
+    Some(Options {
+        form,
+        seed,
+        threads,
+    })
 }
 
 /// A line that is written over on a terminal, and every 10 s elsewhere.
@@ -111,16 +126,15 @@ fn compare(jobs: &[Job], seed: u64, threads: usize) -> Tally {
 }
 
 /// The comparison with its report. True when nothing differs.
-fn report(options: Options) -> bool {
-    let (amounts, form) = if options.full {
+fn report(full: bool, rows: PathBuf, steps: PathBuf, seed: u64, threads: usize) -> bool {
+    let (amounts, form) = if full {
         (Amounts::full(), "full")
     } else {
         (Amounts::short(), "short")
     };
-    let (seed, threads) = (options.seed, options.threads);
     println!("{form} comparison, seed {seed}, {threads} threads");
     let begin = Instant::now();
-    let jobs = plan::jobs(&amounts, seed, options.rows, options.steps);
+    let jobs = plan::jobs(&amounts, seed, Program::rows(rows), Program::steps(steps));
     let tally = compare(&jobs, seed, threads);
     println!("{tally}");
     for difference in tally.differences.iter().take(TOLD) {
@@ -140,9 +154,10 @@ fn main() -> ExitCode {
         eprintln!("{USAGE}");
         return ExitCode::from(2);
     };
-    let same = match options.soak {
-        Some(minutes) => soak::soak(options.seed, Duration::from_secs_f64(60.0 * minutes)),
-        None => report(options),
+    let (seed, threads) = (options.seed, options.threads);
+    let same = match options.form {
+        Form::Compare { full, rows, steps } => report(full, rows, steps, seed, threads),
+        Form::Soak(time) => soak::soak(seed, time),
     };
     ExitCode::from(u8::from(!same))
 }

@@ -1,8 +1,6 @@
 //! The two forms of the comparison as lists of jobs. Every job has a stream
 //! of random numbers of its own, so threads take jobs in any order.
 
-use std::path::PathBuf;
-
 use judge::length::LONGEST;
 
 use crate::calls::Calls;
@@ -21,7 +19,7 @@ pub struct Amounts {
     length_step: u64,
     sampled_rows: usize,
     some_damages: usize,
-    /// Lengths with whole tables, of the rows and of their steps.
+    /// Lengths with whole tables of rows and whole listings of the programs.
     tables: Vec<u64>,
     /// Lengths with every way of damage, and how often.
     damaged: Vec<(u64, usize)>,
@@ -56,7 +54,7 @@ impl Amounts {
     pub fn full() -> Amounts {
         // A whole table for every number of blocks, and some more.
         let mut tables: Vec<u64> = (1..=16).map(|blocks| 64 * blocks - 9).collect();
-        tables.extend([0, 1, 31, 32, 54, 56, 63, 64, 119, 120, 500, 960]);
+        tables.extend([0, 1, 31, 32, 54, 56, 63, 64, 118, 120, 500, 960]);
         Amounts {
             digests: 64,
             produced: 4,
@@ -103,19 +101,14 @@ fn beside_block_end(length: u64) -> bool {
     matches!(length % 64, 55 | 56) || length == LONGEST
 }
 
-/// Lengths with rows and checks, and with steps where the record ends.
+/// Lengths with rows and checks, and with listings where the record ends.
 fn sampled(amounts: &Amounts, seed: u64, length: u64) -> bool {
     length % amounts.length_step == seed % amounts.length_step || beside_block_end(length)
 }
 
 /// All jobs. Those that take long stand first, so that no thread is left
 /// alone with one at the end.
-pub fn jobs(
-    amounts: &Amounts,
-    seed: u64,
-    rows_program: Option<PathBuf>,
-    steps_program: Option<PathBuf>,
-) -> Vec<Job> {
+pub fn jobs(amounts: &Amounts, seed: u64, rows: Program, steps: Program) -> Vec<Job> {
     let mut jobs = Vec::new();
     for &length in amounts.tables.iter().rev() {
         jobs.push(job(
@@ -142,6 +135,7 @@ pub fn jobs(
             refusals::rows(calls, &ground);
             refusals::checks(calls, &ground, times);
             refusals::lengths_above(calls, &ground);
+            refusals::overlapping(calls, &ground, 4 * times);
         }));
     }
     for length in [3, 55, 100] {
@@ -152,36 +146,27 @@ pub fn jobs(
             },
         ));
     }
-    if let Some(file) = rows_program {
-        let (program, count) = (Program::rows(file), amounts.lines);
-        jobs.push(job(String::from("the program rows"), move |calls| {
-            program.lines(calls, count);
-        }));
-    }
+    program_jobs(&mut jobs, amounts, seed, &rows);
+    program_jobs(&mut jobs, amounts, seed, &steps);
     length_jobs(&mut jobs, amounts, seed);
-    if let Some(file) = steps_program {
-        steps_jobs(&mut jobs, amounts, seed, &Program::steps(file));
-    }
     jobs
 }
 
-/// The program `steps`: lines as for `rows`, all rows of some lengths, and
-/// the block bits where the record ends at the sampled lengths. They stand
-/// last, so that the other jobs have the same random numbers without them.
-fn steps_jobs(jobs: &mut Vec<Job>, amounts: &Amounts, seed: u64, program: &Program) {
+/// A program: right and damaged lines, all rows of some lengths, and the block
+/// bits where the record ends at the sampled lengths.
+fn program_jobs(jobs: &mut Vec<Job>, amounts: &Amounts, seed: u64, program: &Program) {
     for &length in amounts.tables.iter().rev() {
+        let name = format!("all rows of length {length} by {}", program.name);
         let program = program.clone();
-        jobs.push(job(format!("all steps of length {length}"), move |calls| {
-            program.all_rows(calls, length);
-        }));
+        jobs.push(job(name, move |calls| program.all_rows(calls, length)));
     }
     let (lines, count) = (program.clone(), amounts.lines);
-    jobs.push(job(String::from("the program steps"), move |calls| {
+    jobs.push(job(format!("lines to {}", program.name), move |calls| {
         lines.lines(calls, count);
     }));
     for length in (0..=LONGEST).filter(|&length| sampled(amounts, seed, length)) {
+        let name = format!("the end of a record of {length} bytes by {}", program.name);
         let program = program.clone();
-        let name = format!("steps where a record of {length} bytes ends");
         jobs.push(job(name, move |calls| program.record_end(calls, length)));
     }
 }
@@ -231,6 +216,7 @@ fn length_jobs(jobs: &mut Vec<Job>, amounts: &Amounts, seed: u64) {
             if rows {
                 let ground = Ground::new(length);
                 sections::sampled_rows(calls, &ground, sampled_rows);
+                refusals::limits(calls, &ground);
                 sections::right_claims(calls, &ground);
                 sections::some_damages(calls, &ground, some_damages);
             }

@@ -1,6 +1,5 @@
 //! The programs `rows` and `steps`, by their standard input and output: the
-//! parser, which is the same for both, and the listings. A program is compared
-//! where it is given.
+//! parser, which is the same for both, and the listings.
 
 use std::io::Write;
 use std::path::{Path, PathBuf};
@@ -16,7 +15,7 @@ use crate::sections::{BLOCK_ROWS, START_ROWS};
 /// A program, and what the judge has it print for a line.
 #[derive(Clone)]
 pub struct Program {
-    name: &'static str,
+    pub name: &'static str,
     file: PathBuf,
     listing: fn(&[u8]) -> String,
     /// What its lines are counted as, those given and those printed.
@@ -24,8 +23,9 @@ pub struct Program {
     printed: &'static str,
 }
 
-/// Lines that meet one clause each of the line's rule, and its figures.
-const LINES: [&str; 36] = [
+/// Lines that meet one clause each of the line's rule, its figures, and lines
+/// with the faults of several refusals.
+const LINES: [&str; 43] = [
     "0,0,2\n",
     "0,0,0\n",
     "0,32832,0\n",
@@ -62,6 +62,13 @@ const LINES: [&str; 36] = [
     "\n",
     "0;0;0\n",
     "0x1,0,0\n",
+    "1015,517631,2\n",
+    "1015,517632,1\n",
+    "1015,999999999,999999999\n",
+    "1016,0,0",
+    "1016,00,0\n",
+    "0,32833,0\n\n",
+    "1016,999999999,1000000000\n",
 ];
 
 fn run(program: &Path, input: &[u8]) -> std::io::Result<Vec<u8>> {

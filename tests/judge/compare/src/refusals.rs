@@ -1,5 +1,5 @@
-//! Every refusal with every later fault present as well, and buffers that
-//! are short, exact and longer.
+//! Every refusal with every later fault present as well, and numbers and
+//! sizes on both sides of each limit.
 
 use judge::field::P;
 use judge::length::{Length, LONGEST};
@@ -163,15 +163,63 @@ pub fn checks(calls: &mut Calls, ground: &Ground, times: usize) {
     }
 }
 
+/// Both sides of each limit at one length: the last row and the one after it
+/// in a buffer of 1,955 and of 1,956 bytes; one byte less than a digest, its
+/// buffer, an assignment and its buffer have.
+pub fn limits(calls: &mut Calls, ground: &Ground) {
+    let (bytes, all) = (ground.bytes(), ground.length.rows() as u64);
+    for number in [all - 1, all] {
+        for size in [ROW_BYTES - 1, ROW_BYTES] {
+            calls.row(&ground.table, bytes, number, size);
+        }
+    }
+    let record = calls.random.bytes(ground.length.bytes());
+    let Claim {
+        digest, assignment, ..
+    } = Claim::of(&record);
+    let short = &assignment[..assignment.len() - 1];
+    calls.digest(&record, DIGEST_BYTES - 1);
+    calls.produce(&record, short.len());
+    for (digest, assignment, number) in [(&digest[..31], &assignment[..], 5), (&digest, short, 6)] {
+        let judged = calls.check(&ground.table, bytes, digest, assignment, "a byte less");
+        calls.must_be(number, judged, "a byte less");
+    }
+    calls
+        .tally
+        .count("lengths with both sides of the limits", 1);
+}
+
 /// Refusal 2 at every length above 1,015 up to 2,000.
 pub fn lengths_above(calls: &mut Calls, ground: &Ground) {
     let claim = ground.claim(&mut calls.random);
     for length in LONGEST + 1..=2_000 {
-        let judged = calls.check(&ground.table, length, &claim.digest, &claim.assignment, "");
-        calls.must_be(Refusal::Length.number(), judged, "a length above 1,015");
-        calls.row(&ground.table, length, 0, ROW_BYTES);
-        let record = calls.random.bytes(length as usize);
-        calls.digest(&record, DIGEST_BYTES);
-        calls.produce(&record, claim.assignment.len());
+        length_above(calls, ground, length, &claim);
+    }
+    // At 1,016 once more with the sizes that 17 blocks would have, so that
+    // nothing but the length is wrong before the rows.
+    let mut longer = claim;
+    longer.assignment.resize(8 * (513 + 22_528 * 17), 0);
+    length_above(calls, ground, LONGEST + 1, &longer);
+}
+
+fn length_above(calls: &mut Calls, ground: &Ground, length: u64, claim: &Claim) {
+    let judged = calls.check(&ground.table, length, &claim.digest, &claim.assignment, "");
+    calls.must_be(Refusal::Length.number(), judged, "a length above 1,015");
+    calls.row(&ground.table, length, 0, ROW_BYTES);
+    let record = calls.random.bytes(length as usize);
+    calls.digest(&record, DIGEST_BYTES);
+    calls.produce(&record, claim.assignment.len());
+}
+
+/// "Slices that are only read may overlap" (docs/HOST.md): the digest is 32
+/// bytes of the assignment itself. The digest wires have its bits, so that
+/// the check comes to the rows.
+pub fn overlapping(calls: &mut Calls, ground: &Ground, times: usize) {
+    for _ in 0..times {
+        let mut claim = ground.claim(&mut calls.random);
+        let at = calls.random.range(8 * 257, claim.assignment.len() - 31);
+        claim.digest.copy_from_slice(&claim.assignment[at..at + 32]);
+        claim.set_digest_wires();
+        calls.check_own_bytes(&ground.table, ground.length, &claim.assignment, at);
     }
 }

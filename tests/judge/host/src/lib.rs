@@ -55,8 +55,8 @@ impl Empty {
     }
 }
 
-// Each call lends slices that live through it and do not overlap, which the
-// borrows of the arguments see to.
+// Each call lends slices that live through it, and none overlaps `out`, which
+// the borrows of the arguments see to.
 
 pub fn digest(empty: Empty, record: &[u8], out: &mut [u8]) -> u64 {
     let (from, to) = (empty.of(record), empty.of_mut(out));
