@@ -1,10 +1,5 @@
-pub mod Bounds
 pub mod Circuit
-pub mod Layout
+pub mod Circuits
 pub mod Places
 pub mod Ranges
-pub mod RowAnswer
-pub mod Rows
-pub mod Shape
-pub mod Terms
 pub mod Wires

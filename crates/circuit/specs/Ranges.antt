@@ -1,33 +1,33 @@
--- A device: which words each step has, which the code hands on with a row's place so that no number of a wire overflows. Every
--- row's place is in these ranges, by `in-record`; no answer rests on them.
-use Prim.Native.Nat.{ℕ, _<_, _≤_}
-use Rattle.circuit.specs.Places.{lines}
-use Rattle.circuit.specs.declared.place.Place.{Place}
-use Rattle.circuit.specs.declared.place.Step.{Step}
-use Rattle.circuit.specs.declared.place.Step.the-variants.{Start, Message, Q, P1, W, WPrime, U, Ss2, Ff, Gg, Tt1, Tt2, P0, Result, Digest}
-use Rattle.sm3.specs.Message.{blocks}
+-- A device: which places there are, and how large a circuit can be, which the code hands on so that no number of a wire or a row
+-- overflows; no answer rests on it.
+use Prim.Native.Nat.{ℕ, _+_, _<_, _≤_}
+use Rattle.block.specs.Ranges.{InStep}
+use Rattle.block.specs.declared.place.Place.{Place}
+use Rattle.circuit.specs.Circuits.{appendedRows}
+use Rattle.circuit.specs.declared.message.MessageSpan.{MessageSpan}
+use Rattle.sm3.specs.Message.{blocks, mostBits}
 
--- a word from `low` on and below `high`, and a line below `count`
-abbrev pub In : ℕ → ℕ → ℕ → ℕ → ℕ → Type 0
-In low high count j l = (low ≤ j) × (j < high) × (l < count)
+-- the most blocks, and the most wires and rows, with an appendix of 2,312 each
+abbrev pub mostBlocks : ℕ
+mostBlocks = 31
 
-abbrev pub InStep : Step → ℕ → ℕ → Type 0
-InStep Start j l = In 0 8 (lines Start j) j l
-InStep Message j l = In 0 16 (lines Message j) j l
-InStep Q j l = In 16 68 (lines Q j) j l
-InStep P1 j l = In 16 68 (lines P1 j) j l
-InStep W j l = In 16 68 (lines W j) j l
-InStep WPrime j l = In 0 64 (lines WPrime j) j l
-InStep U j l = In 0 64 (lines U j) j l
-InStep Ss2 j l = In 0 64 (lines Ss2 j) j l
-InStep Ff j l = In 0 64 (lines Ff j) j l
-InStep Gg j l = In 0 64 (lines Gg j) j l
-InStep Tt1 j l = In 0 64 (lines Tt1 j) j l
-InStep Tt2 j l = In 0 64 (lines Tt2 j) j l
-InStep P0 j l = In 0 64 (lines P0 j) j l
-InStep Result j l = In 0 8 (lines Result j) j l
-InStep Digest j l = In 0 8 (lines Digest j) j l
+abbrev pub mostWires : ℕ
+mostWires = 701193
 
--- a place for a record of n bits
-abbrev pub InRecord : ℕ → Place → Type 0
-InRecord n p = (p .block < blocks n) × InStep (p .step) (p .index) (p .line)
+abbrev pub mostRows : ℕ
+mostRows = 1004744
+
+-- a place among c blocks and m appended rows
+abbrev pub InFrame : ℕ → ℕ → Place → Type 0
+InFrame c m p = (p .block < c) × InStep m (p .step) (p .index) (p .line)
+
+-- .. for a record of n bits
+abbrev pub InCircuit : ℕ → Place → Type 0
+InCircuit n p = InFrame (blocks n) (appendedRows n) p
+
+-- block i is one of the message m
+pub record OfMessage (m : MessageSpan) (i : ℕ) : Type 0 where
+  pub bits : m .bits ≤ mostBits
+  pub from : m .begin ≤ i
+  pub below : i < m .begin + blocks (m .bits)
+  pub few : i < mostBlocks

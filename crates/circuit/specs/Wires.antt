@@ -1,28 +1,12 @@
--- Where words stand: the number of each word's first wire (document 01, "Wires"). F is the first wire of a block.
-use mathlib.Core.Bool.{cond}
-use Prim.Native.Nat.{ℕ, zero, suc, _+_, _-_, _*_, _%_}
-use lib.Dec.{ltb}
-use Rattle.refusal.specs.declared.numbers.WireNumber.{WireNumber}
-use Rattle.circuit.specs.declared.wire.WordPosition.{WordPosition}
-
--- "Wire 0 is the constant 1"
-abbrev pub one : WireNumber
-one = record { 0 = 0 }
-
--- the wire that is i past w
-abbrev pub at : WireNumber → ℕ → WireNumber
-at w i = record { 0 = w .0 + i }
-
--- "A turned word is the same wires in another order": a word that stands from wire w on, and the same rotated by k more
-abbrev pub standing : ℕ → WordPosition
-standing w = record { first = record { 0 = w }; rotation = 0 }
-
-abbrev pub rotatedBy : ℕ → WordPosition → WordPosition
-rotatedBy k x = record { first = x .first; rotation = (x .rotation + k) % 32 }
-
--- the wire of bit i
-abbrev pub wireAt : WordPosition → ℕ → WireNumber
-wireAt x i = at (x .first) ((i + x .rotation) % 32)
+-- The wires of a circuit (document 01, "Wires").
+use Prim.Native.Nat.{ℕ, _+_, _*_}
+use Rattle.block.specs.BlockWires.{stateWires}
+use Rattle.block.specs.Wires.{wiresPerBlock}
+use Rattle.circuit.specs.Circuits.{appendedWires}
+use Rattle.encoding.specs.Sequence.{beside}
+use Rattle.sm3.specs.Message.{blocks}
+use Rattle.sm3.specs.Sm3.{start}
+use Rattle.sm3.specs.declared.state.State.{State}
 
 -- "Wires 1 to 256: digest. 257 to 512: start words. Then 22,528 a block"
 abbrev pub digestFirst : ℕ
@@ -34,130 +18,13 @@ startFirst = 257
 abbrev pub firstBlock : ℕ
 firstBlock = 513
 
-abbrev pub wiresPerBlock : ℕ
-wiresPerBlock = 22528
-
 abbrev pub blockFirst : ℕ → ℕ
 blockFirst i = firstBlock + wiresPerBlock * i
 
--- where the parts of a block begin, after its "512 block bits"
-abbrev pub expansionAt : ℕ
-expansionAt = 512
+-- "Wire 0 is the constant 1", the digest, the start words; then the wires of the blocks, and those that are appended
+unfoldable pub frameWires : State → (ℕ → ℕ) → ℕ → ℕ
+frameWires digest rest = beside 1 (λ k. 1) (beside 256 (stateWires digest) (beside 256 (stateWires start) rest))
 
-abbrev pub pairsAt : ℕ
-pairsAt = 5504
-
-abbrev pub roundsAt : ℕ
-roundsAt = 7552
-
-abbrev pub resultAt : ℕ
-resultAt = 22272
-
--- "for each j from 16 to 67: q, P1(q), Wj"
-abbrev pub expansionWidth : ℕ
-expansionWidth = 96
-
-abbrev pub qFirst : ℕ → ℕ → ℕ
-qFirst F j = F + expansionAt + expansionWidth * (j - 16)
-
-abbrev pub p1First : ℕ → ℕ → ℕ
-p1First F j = qFirst F j + 32
-
-abbrev pub wFirst : ℕ → ℕ → ℕ
-wFirst F j = cond (ltb j 16) (F + 32 * j) (qFirst F j + 64)
-
--- "W'0 to W'63"
-abbrev pub wPrimeFirst : ℕ → ℕ → ℕ
-wPrimeFirst F j = F + pairsAt + 32 * j
-
--- "for each round: u and its 2 carries, SS2, FF, GG, TT1 and 2 carries, TT2 and 2 carries, P0(TT2)": where each begins
-abbrev pub roundWidth : ℕ
-roundWidth = 230
-
-abbrev pub ss2At : ℕ
-ss2At = 34
-
-abbrev pub ffAt : ℕ
-ffAt = 66
-
-abbrev pub ggAt : ℕ
-ggAt = 98
-
-abbrev pub tt1At : ℕ
-tt1At = 130
-
-abbrev pub tt2At : ℕ
-tt2At = 164
-
-abbrev pub p0At : ℕ
-p0At = 198
-
-abbrev pub uFirst : ℕ → ℕ → ℕ
-uFirst F j = F + roundsAt + roundWidth * j
-
-abbrev pub ss2First : ℕ → ℕ → ℕ
-ss2First F j = uFirst F j + ss2At
-
-abbrev pub ffFirst : ℕ → ℕ → ℕ
-ffFirst F j = uFirst F j + ffAt
-
-abbrev pub ggFirst : ℕ → ℕ → ℕ
-ggFirst F j = uFirst F j + ggAt
-
-abbrev pub tt1First : ℕ → ℕ → ℕ
-tt1First F j = uFirst F j + tt1At
-
-abbrev pub tt2First : ℕ → ℕ → ℕ
-tt2First F j = uFirst F j + tt2At
-
-abbrev pub p0First : ℕ → ℕ → ℕ
-p0First F j = uFirst F j + p0At
-
--- "the 8 result words"
-abbrev pub resultFirst : ℕ → ℕ → ℕ
-resultFirst F k = F + resultAt + 32 * k
-
--- Where A to H stand.
-pub record StatePosition : Type 0 where
-  pub a : WordPosition
-  pub b : WordPosition
-  pub c : WordPosition
-  pub d : WordPosition
-  pub e : WordPosition
-  pub f : WordPosition
-  pub g : WordPosition
-  pub h : WordPosition
-
--- the eight words that stand one after the other from wire w on
-unfoldable pub eightFrom : ℕ → StatePosition
-eightFrom w =
-    record {
-      a = standing w;
-      b = standing (w + 32);
-      c = standing (w + 64);
-      d = standing (w + 96);
-      e = standing (w + 128);
-      f = standing (w + 160);
-      g = standing (w + 192);
-      h = standing (w + 224);
-    }
-
--- after round j of the block whose first wire is F: "Then D = C, C = B<<<9, B = A, A = TT1, H = G, G = F<<<19, F = E,
--- E = P0(TT2)"
-unfoldable pub moved : ℕ → ℕ → StatePosition → StatePosition
-moved F j s =
-    record {
-      a = standing (tt1First F j);
-      b = s .a;
-      c = rotatedBy 9 (s .b);
-      d = s .c;
-      e = standing (p0First F j);
-      f = s .e;
-      g = rotatedBy 19 (s .f);
-      h = s .g;
-    }
-
--- before round j of a block that begins with the words at v
-unfoldable pub stands : ℕ → StatePosition → ℕ → StatePosition
-stands F v zero = v
-stands F v (suc j) = moved F j (stands F v j)
+-- "Wires in all: 513 + 22,528 × n", for a record of n bits
+unfoldable pub wireCount : ℕ → ℕ
+wireCount n = firstBlock + wiresPerBlock * blocks n + appendedWires n

@@ -1,10 +1,6 @@
-// The constraint rows of a record: wires, row forms, the row of a number.
-pub mod form;
+// The constraint rows around and over the blocks: wires, messages, places, the row of a number.
+pub mod message;
 pub mod place;
 pub mod row;
-pub mod sort;
 pub mod step_form;
-pub mod term_bytes;
-pub mod terms;
 pub mod wire;
-pub mod word_form;

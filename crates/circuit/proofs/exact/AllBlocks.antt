@@ -1,60 +1,58 @@
--- Blocks one after the other, over any message and any rows for its bits. Block 0 begins with the start words, each later block
--- with the results of the one before, which agree by then; so each block's rows hold exactly where its wires agree, given the
--- blocks before it.
+-- Blocks one after the other. Block i begins with the words B i, which stand at v i, and its 512 bits are b i, each known once the
+-- blocks before it have their wires; so each block's rows hold exactly where its wires agree, given the blocks before it.
 use mathlib.Core.Logic.{_↔_}
-use mathlib.Core.Path.{refl, subst, subst₂, sym}
-use Prim.Native.Nat.{ℕ, zero, suc, _+_, _*_, _<_}
-use native.Mathlib.Nat.{add-zero, mul-comm}
-use native.Mathlib.Omega.{arith}
-use Rattle.circuit.proofs.exact.Block.{block-run, blockForms, results-agree}
-use Rattle.circuit.proofs.exact.Parts.{agree-at, agree-past, agree-row, then-at}
-use Rattle.circuit.proofs.exact.Runs.{Agree, Holds, Judged, each}
-use Rattle.circuit.proofs.exact.States.{CarriesState, carries-eight}
-use Rattle.circuit.specs.Circuit.{begins}
-use Rattle.circuit.specs.Layout.{blockWires, messageWires, stateWires}
-use Rattle.circuit.specs.Wires.{blockFirst, expansionAt, firstBlock, resultAt, resultFirst, startFirst, wiresPerBlock}
-use Rattle.circuit.specs.declared.form.Form.{Form}
-use Rattle.sm3.proofs.Bounds.{chaining-words, start-words}
-use Rattle.sm3.specs.Message.{blockBits, chainingValue}
-use Rattle.sm3.specs.Sm3.{start}
+use mathlib.Core.Path.{refl, subst, subst₂}
+use Prim.Native.Nat.{ℕ, _+_, _*_, _<_}
+use native.Mathlib.Nat.{mul-comm}
+use Rattle.block.proofs.exact.Block.{block-run, blockForms, results-agree}
+use Rattle.block.proofs.exact.States.{CarriesState}
+use Rattle.block.specs.BlockWires.{blockWires, stateWires}
+use Rattle.block.specs.Steps.{blockRows, computedRows}
+use Rattle.block.specs.Wires.{computedPerBlock, expansionAt, resultAt, StatePosition, wiresPerBlock}
+use Rattle.circuit.specs.Wires.{blockFirst, firstBlock}
 use Rattle.encoding.specs.Sequence.{beside, grid}
-use Rattle.circuit.specs.Places.{blockRows}
+use Rattle.forms.proofs.exact.Parts.{agree-past, agree-row, then-at}
+use Rattle.forms.proofs.exact.Runs.{Agree, Holds, Judged, each}
+use Rattle.forms.specs.declared.form.Form.{Form}
+use Rattle.sm3.specs.Sm3.{block}
+use Rattle.sm3.specs.declared.state.State.{State}
 
-module _ (a : ℕ → ℕ) (m : ℕ → ℕ) where
-  -- the results of block i are what the next block begins with
-  results : (i : ℕ) → Agree a (blockFirst i) wiresPerBlock (blockWires (blockBits m i) (chainingValue m i))
-      → Agree a (blockFirst i + resultAt) 256 (stateWires (chainingValue m (suc i)))
-  unfolding blockWires chainingValue
-  results i e =
-      results-agree a (blockFirst i) (blockBits m i) (chainingValue m i)
-      (agree-past a (blockFirst i) (blockFirst i + expansionAt) 512 22016 _ _ refl e)
+-- the wires of the blocks
+abbrev blocksWires : (ℕ → State) → (ℕ → ℕ → ℕ) → ℕ → ℕ
+blocksWires B b = grid wiresPerBlock (λ i. blockWires (b i) (B i))
 
-  pub chaining-results : (c : ℕ) → Agree a firstBlock (wiresPerBlock * c) (messageWires m) → (i : ℕ) → i < c
-      → Agree a (blockFirst i + resultAt) 256 (stateWires (chainingValue m (suc i)))
-  unfolding messageWires
-  chaining-results c e i l =
-      results i (agree-row a firstBlock c wiresPerBlock _ (subst (λ x. Agree a firstBlock x (messageWires m)) (mul-comm wiresPerBlock c) e) i l)
+module _ (a : ℕ → ℕ) (B : ℕ → State) (b : ℕ → ℕ → ℕ) where
+  -- block i has its wires, and so have those before it
+  abbrev HasBlock : ℕ → Type 0
+  HasBlock i = Agree a (blockFirst i) wiresPerBlock (blockWires (b i) (B i))
 
-  module _ (J : Judged a) (begin : Agree a startFirst 256 (stateWires start)) where
-    begun : (i : ℕ) → ((j : ℕ) → j < i → Agree a (blockFirst j) wiresPerBlock (blockWires (blockBits m j) (chainingValue m j)))
-        → CarriesState a (begins i) (chainingValue m i)
-    unfolding begins chainingValue
-    begun zero e = carries-eight a J startFirst start start-words begin
-    begun (suc i) e =
-        carries-eight a J (resultFirst (blockFirst i) 0) (chainingValue m (suc i)) (chaining-words m (suc i))
-        (agree-at a (blockFirst i + resultAt) _ 256 _ (sym (add-zero (blockFirst i + resultAt))) (results i (e i (omega arith))))
+  abbrev pub HasEarlier : ℕ → Type 0
+  HasEarlier i = (j : ℕ) → j < i → HasBlock j
 
-    -- f i are the rows of the bits of block i
-    pub chaining-run : (f : ℕ → ℕ → Form) (c : ℕ) → ((k : ℕ) → m k < 2)
-        → ((i : ℕ) → Holds a 512 (f i) ↔ Agree a (blockFirst i) 512 (blockBits m i))
-        → (Holds a (blockRows * c) (grid blockRows (λ i. beside 512 (f i) (blockForms (blockFirst i) (begins i))))
-        ↔ Agree a firstBlock (wiresPerBlock * c) (messageWires m))
-    unfolding messageWires blockWires blockBits
-    chaining-run f c bits rows =
-        subst₂
-        (λ x y. Holds a x (grid blockRows (λ i. beside 512 (f i) (blockForms (blockFirst i) (begins i)))) ↔ Agree a firstBlock y (messageWires m))
-        (mul-comm c blockRows) (mul-comm c wiresPerBlock)
-        (each a firstBlock c blockRows wiresPerBlock _ _
-        (λ i l earlier.
-        then-at a (blockFirst i) (blockFirst i + expansionAt) 512 31808 512 22016 _ _ _ _ refl (rows i)
-        (block-run a J (blockFirst i) (begins i) (chainingValue m i) (begun i earlier) (blockBits m i) (λ k h. bits (512 * i + k)))))
+  pub block-of : (c : ℕ) → Agree a firstBlock (wiresPerBlock * c) (blocksWires B b) → (i : ℕ) → i < c → HasBlock i
+  block-of c e =
+      agree-row a firstBlock c wiresPerBlock _ (subst (λ n. Agree a firstBlock n (blocksWires B b)) (mul-comm wiresPerBlock c) e)
+
+  -- its result
+  pub block-result : (i : ℕ) → HasBlock i → Agree a (blockFirst i + resultAt) 256 (stateWires (block (b i) (B i)))
+  unfolding blockWires
+  block-result i e =
+      results-agree a (blockFirst i) (b i) (B i)
+      (agree-past a (blockFirst i) (blockFirst i + expansionAt) 512 computedPerBlock _ _ refl e)
+
+  -- f i are the rows of the bits of block i
+  pub blocks-run : Judged a → (v : ℕ → StatePosition) (f : ℕ → ℕ → Form) (c : ℕ)
+      → ((i : ℕ) → i < c → (k : ℕ) → k < 512 → b i k < 2)
+      → ((i : ℕ) → i < c → HasEarlier i → CarriesState a (v i) (B i))
+      → ((i : ℕ) → i < c → HasEarlier i → (Holds a 512 (f i) ↔ Agree a (blockFirst i) 512 (b i)))
+      → (Holds a (blockRows * c) (grid blockRows (λ i. beside 512 (f i) (blockForms (blockFirst i) (v i))))
+      ↔ Agree a firstBlock (wiresPerBlock * c) (blocksWires B b))
+  unfolding blockWires
+  blocks-run J v f c bits begun rows =
+      subst₂
+      (λ x y. Holds a x (grid blockRows (λ i. beside 512 (f i) (blockForms (blockFirst i) (v i)))) ↔ Agree a firstBlock y (blocksWires B b))
+      (mul-comm c blockRows) (mul-comm c wiresPerBlock)
+      (each a firstBlock c blockRows wiresPerBlock _ _
+      (λ i l earlier.
+      then-at a (blockFirst i) (blockFirst i + expansionAt) 512 computedRows 512 computedPerBlock _ _ _ _ refl (rows i l earlier)
+      (block-run a J (blockFirst i) (v i) (B i) (begun i l earlier) (b i) (bits i l))))

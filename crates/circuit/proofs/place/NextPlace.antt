@@ -5,9 +5,10 @@ use Prim.Native.Nat.{ℕ, _+_, _*_, _<_}
 use native.Mathlib.Nat.{add-assoc, mul-comm}
 use native.Mathlib.Omega.{arith}
 use lib.Arith.{digits-lt}
+use Rattle.block.specs.Steps.{lines, place}
+use Rattle.block.specs.declared.place.Place.{Place}
 use Rattle.circuit.proofs.place.WordByWord.{word-by-word}
-use Rattle.circuit.specs.Places.{lines, place, placeAt, rowCount}
-use Rattle.circuit.specs.declared.place.Place.{Place}
+use Rattle.circuit.specs.Places.{placeAt}
 use Rattle.encoding.proofs.Sequence.{beside-first, beside-then, each-beside, each-grid, grid-at}
 use Rattle.encoding.specs.Sequence.{beside, grid}
 
@@ -44,8 +45,8 @@ rows c m f a =
     let r = a j h i l inner in
     (omega (arith, digits-lt h (r .0), mul-comm j m), ap (grid m f) (add-assoc (m * j) i 1) ∙ grid-at m f j (i + 1) (r .0) ∙ r .1))
 
-pub next-line : (n k : ℕ) → k < rowCount n → Inner (placeAt n k) → placeAt n (k + 1) ≡ after (placeAt n k)
+pub next-line : (c k : ℕ) → 0 < c → Inner (placeAt c k) → placeAt c (k + 1) ≡ after (placeAt c k)
 unfolding placeAt
-next-line n k l inner =
-    word-by-word (λ c f g. Counting c f) (λ c m f g f′ g′. then c m f g) (λ c m f f′. rows c m f) n place place
-    (λ s i j a b l h inner. (inner, refl)) k l inner .1
+next-line c k some inner =
+    word-by-word (λ n f g. Counting n f) (λ n m f g f′ g′. then n m f g) (λ n m f f′. rows n m f) c (k + 1) some place place
+    (λ s i j a b l h inner. (inner, refl)) k (omega arith) inner .1

@@ -1,66 +1,49 @@
 -- The one walk through the layout of the rows. A relation between two sequences of n rows that passes from runs to the runs one
--- after the other, and from rows of a grid to the grid, holds of all rows of a record once it holds of each word's.
-use mathlib.Core.Bool.{cond}
-use mathlib.Core.Path.{_≡_, ap, subst}
-use Prim.Native.Nat.{ℕ, _+_, _*_, _<_, _≤_}
-use native.Mathlib.Nat.{mul-comm}
+-- after the other, and from rows of a grid to the grid, holds of all rows of a circuit once it holds of each word's.
+use mathlib.Core.Path.{_≡_, ap₂, fun-ext, subst, subst₂}
+use Prim.Native.Nat.{ℕ, _+_, _*_, _/_, _%_, _<_}
+use native.Mathlib.Nat.{mul-comm, mul-one}
 use native.Mathlib.Omega.{arith}
-use borrow.Author.Tests.{le-ltb, lt-ltb}
-use Rattle.circuit.specs.Places.{blockLayout, blockRows, expansionLayout, lines, recordLayout, roundLayout, roundsLayout, rowCount}
-use Rattle.circuit.specs.Ranges.{InStep}
-use Rattle.circuit.specs.declared.place.Step.{Step}
-use Rattle.circuit.specs.declared.place.Step.the-variants.{Digest, Gg, Start}
-use Rattle.sm3.specs.Message.{blocks}
+use Rattle.block.proofs.place.WordByWord.{block-by-word}
+use Rattle.block.specs.Ranges.{InStep}
+use Rattle.block.specs.Steps.{blockLayout, blockRows, lines}
+use Rattle.block.specs.declared.step.Step.the-variants.{Appended, Digest, Start}
+use Rattle.block.specs.declared.step.Step.{Step}
+use Rattle.circuit.specs.Places.{frameLayout, frameRows}
 use Rattle.encoding.specs.Sequence.{beside, grid}
+
+-- rows of one element each
+grid-one : {A : Type 0} (f : ℕ → ℕ → A) → grid 1 f ≡ (λ k. f k 0)
+unfolding grid
+grid-one f =
+    fun-ext
+    (λ k.
+    let row : k / 1 ≡ k = omega arith in
+    let first : k % 1 ≡ 0 = omega arith in
+    ap₂ f row first)
 
 module _ {A B : Type 0} (R : ℕ → (ℕ → A) → (ℕ → B) → Type 0)
     (then : (n m : ℕ) (f g : ℕ → A) (f′ g′ : ℕ → B) → R n f f′ → R m g g′ → R (n + m) (beside n f g) (beside n f′ g′))
     (rows : (c m : ℕ) (f : ℕ → ℕ → A) (f′ : ℕ → ℕ → B) → ((j : ℕ) → j < c → R m (f j) (f′ j)) → R (c * m) (grid m f) (grid m f′))
   where
-    module _ (w : Step → ℕ → ℕ → A) (v : Step → ℕ → ℕ → B)
-        (word : (s : Step) (j : ℕ) → ((l : ℕ) → l < lines s j → InStep s j l) → R (lines s j) (w s j) (v s j)) where
-      expansion : (j : ℕ) → 16 ≤ j → j < 68 → R 192 (expansionLayout w j) (expansionLayout v j)
-      unfolding expansionLayout
-      expansion j a b =
-          then 64 128 _ _ _ _ (word _ j (λ l h. omega arith))
-          (then 64 64 _ _ _ _ (word _ j (λ l h. omega arith)) (word _ j (λ l h. omega arith)))
+    module _ (c m : ℕ) (some : 0 < c) (w : Step → ℕ → ℕ → ℕ → A) (v : Step → ℕ → ℕ → ℕ → B)
+        (word : (s : Step) (i j : ℕ) → i < c → ((l : ℕ) → l < lines s j → InStep m s j l) → R (lines s j) (w s i j) (v s i j)) where
+      blocks : R (blockRows * c) (grid blockRows (λ i. blockLayout (λ s. w s i))) (grid blockRows (λ i. blockLayout (λ s. v s i)))
+      blocks =
+          subst (λ n. R n (grid blockRows (λ i. blockLayout (λ s. w s i))) (grid blockRows (λ i. blockLayout (λ s. v s i)))) (mul-comm c blockRows)
+          (rows c blockRows _ _ (λ i a. block-by-word R then rows m (λ s. w s i) (λ s. v s i) (λ s j h. word s i j a h)))
 
-      round : (j : ℕ) → j < 64 → (g : ℕ) → lines Gg j ≡ g → R (35 + (32 + (64 + (g + 134)))) (roundLayout w j) (roundLayout v j)
-      unfolding roundLayout
-      round j a g e =
-          subst (λ g. R (35 + (32 + (64 + (g + 134)))) (roundLayout w j) (roundLayout v j)) e
-          (then 35 _ _ _ _ _ (word _ j (λ l h. omega arith))
-          (then 32 _ _ _ _ _ (word _ j (λ l h. omega arith))
-          (then 64 _ _ _ _ _ (word _ j (λ l h. omega arith))
-          (then (lines Gg j) _ _ _ _ _ (word _ j (λ l h. (omega arith, a, h)))
-          (then 35 99 _ _ _ _ (word _ j (λ l h. omega arith))
-          (then 35 64 _ _ _ _ (word _ j (λ l h. omega arith)) (word _ j (λ l h. omega arith))))))))
+      appended : R m (λ k. w Appended 0 k 0) (λ k. v Appended 0 k 0)
+      appended =
+          subst₂ (R m) (grid-one (w Appended 0)) (grid-one (v Appended 0))
+          (subst (λ n. R n (grid 1 (w Appended 0)) (grid 1 (v Appended 0))) (mul-one m)
+          (rows m 1 _ _ (λ j a. word Appended 0 j some (λ l h. omega arith))))
 
-      rounds : R 19520 (roundsLayout w) (roundsLayout v)
-      unfolding roundsLayout
-      rounds =
-          then 5264 14256 _ _ _ _
-          (rows 16 329 _ _ (λ j a. round j (omega arith) 64 (ap (λ t. cond t 64 32) (lt-ltb j 16 a))))
-          (rows 48 297 _ _ (λ j a. round (16 + j) (omega arith) 32 (ap (λ t. cond t 64 32) (le-ltb (16 + j) 16 (omega arith)))))
-
-      block : R blockRows (blockLayout w) (blockLayout v)
-      unfolding blockLayout
-      block =
-          then 512 31808 _ _ _ _ (rows 16 32 _ _ (λ j a. word _ j (λ l h. omega arith)))
-          (then 9984 21824 _ _ _ _ (rows 52 192 _ _ (λ j a. expansion (16 + j) (omega arith) (omega arith)))
-          (then 2048 19776 _ _ _ _ (rows 64 32 _ _ (λ j a. word _ j (λ l h. omega arith)))
-          (then 19520 256 _ _ _ _ rounds (rows 8 32 _ _ (λ j a. word _ j (λ l h. omega arith))))))
-
-    module _ (n : ℕ) (w : Step → ℕ → ℕ → ℕ → A) (v : Step → ℕ → ℕ → ℕ → B)
-        (word : (s : Step) (i j : ℕ) → i < blocks n → ((l : ℕ) → l < lines s j → InStep s j l) → R (lines s j) (w s i j) (v s i j)) where
-      pub word-by-word : R (rowCount n) (recordLayout n w) (recordLayout n v)
-      unfolding blocks recordLayout rowCount
+      pub word-by-word : R (frameRows c m) (frameLayout c w) (frameLayout c v)
+      unfolding frameLayout
       word-by-word =
-          let all : 256 + (blockRows * blocks n + 256) ≡ rowCount n = omega arith in
-          let some : 0 < blocks n = omega arith in
-          subst (λ c. R c (recordLayout n w) (recordLayout n v)) all
-          (then 256 (blockRows * blocks n + 256) _ _ _ _ (rows 8 32 _ _ (λ j a. word Start 0 j some (λ l h. omega arith)))
-          (then (blockRows * blocks n) 256 _ _ _ _
-          (subst (λ c. R c (grid blockRows (λ i. blockLayout (λ s. w s i))) (grid blockRows (λ i. blockLayout (λ s. v s i)))) (mul-comm (blocks n) blockRows)
-          (rows (blocks n) blockRows _ _ (λ i a. block (λ s. w s i) (λ s. v s i) (λ s j h. word s i j a h))))
-          (rows 8 32 _ _ (λ j a. word Digest 0 j some (λ l h. omega arith)))))
+          let all : 256 + (blockRows * c + (256 + m)) ≡ frameRows c m = omega arith in
+          subst (λ n. R n (frameLayout c w) (frameLayout c v)) all
+          (then 256 (blockRows * c + (256 + m)) _ _ _ _ (rows 8 32 _ _ (λ j a. word Start 0 j some (λ l h. omega arith)))
+          (then (blockRows * c) (256 + m) _ _ _ _ blocks
+          (then 256 m _ _ _ _ (rows 8 32 _ _ (λ j a. word Digest 0 j some (λ l h. omega arith))) appended)))

@@ -1,69 +1,89 @@
--- Every row of a record joins wires that are apart from each other and from wire 0, step by step.
+-- Every row joins wires that are apart from each other and from wire 0, step by step.
+use mathlib.Core.Path.{_≡_}
 use Prim.Native.Nat.{ℕ, _+_, _-_, _*_, _<_, _≤_}
 use native.Mathlib.Omega.{arith}
-use lib.Dec.{ltb}
-use Rattle.circuit.proofs.shape.All.{of-cond}
-use Rattle.circuit.proofs.shape.Apart.{Apart}
-use Rattle.circuit.proofs.shape.BlockApart.{ff-apart, gg-apart, p0-apart, p1-apart, q-apart, result-apart, ss2-apart, tt1-apart, tt2-apart, u-apart, w-prime-apart, w-apart}
-use Rattle.circuit.proofs.place.PlaceRange.{in-record}
-use Rattle.circuit.proofs.shape.Standing.{begins-before}
-use Rattle.circuit.specs.Circuit.{digestForm, formAt, formOf, messageForm, startForm}
-use Rattle.circuit.specs.Layout.{wireCount}
-use Rattle.circuit.specs.Places.{place, placeAt, rowCount}
-use Rattle.circuit.specs.Ranges.{InRecord, InStep}
-use Rattle.circuit.specs.Wires.{blockFirst, wiresPerBlock}
-use Rattle.circuit.specs.declared.place.Step.the-variants.{Start, Message, Q, P1, W, WPrime, U, Ss2, Ff, Gg, Tt1, Tt2, P0, Result, Digest}
-use Rattle.circuit.specs.declared.place.Step.{Step}
+use borrow.Author.Tests.{eqb-false}
+use lib.Dec.{eqb, ltb}
+use Rattle.block.proofs.shape.BlockApart.{ff-apart, gg-apart, p0-apart, p1-apart, q-apart, result-apart, ss2-apart, tt1-apart, tt2-apart, u-apart, w-prime-apart, w-apart}
+use Rattle.block.specs.Ranges.{InStep}
+use Rattle.block.specs.Steps.{place}
+use Rattle.block.specs.Wires.{wiresPerBlock}
+use Rattle.block.specs.declared.step.Step.the-variants.{Start, Message, Q, P1, W, WPrime, U, Ss2, Ff, Gg, Tt1, Tt2, P0, Result, Digest, Appended}
+use Rattle.block.specs.declared.step.Step.{Step}
+use Rattle.circuit.proofs.place.PlaceRange.{in-circuit}
+use Rattle.circuit.specs.Circuit.{begins, beginsAt, digestForm, formAt, formOf, messageForm, startForm}
+use Rattle.circuit.specs.Circuits.{appendedRows, messageOf}
+use Rattle.circuit.specs.Places.{placeAt, rowCount}
+use Rattle.circuit.specs.Ranges.{InCircuit}
+use Rattle.circuit.specs.Wires.{blockFirst, wireCount}
+use Rattle.circuit.specs.declared.message.MessageSpan.{MessageSpan}
+use Rattle.forms.proofs.shape.All.{of-cond}
+use Rattle.forms.proofs.shape.Apart.{Apart}
 use Rattle.sm3.proofs.Bounds.{message-lt}
 use Rattle.sm3.specs.Message.{blocks}
 use Rattle.sm3.specs.Words.{bit}
 
+-- the words that a block of a message begins with stand before it
+begins-before : (m : MessageSpan) (i : ℕ) → m .begin ≤ i → (1 ≤ beginsAt m i) × (beginsAt m i + 256 ≤ blockFirst i)
+begins-before m i h =
+    of-cond (λ w. (1 ≤ w) × (w + 256 ≤ blockFirst i)) (eqb i (m .begin)) (λ t. omega arith)
+    (λ t.
+    let later : m .begin < i = lower (eqb-false i (m .begin) t) in
+    omega arith)
+  where
+    lower : (i ≡ m .begin → ⊥) → m .begin < i
+    lower n = omega arith
+
 module _ (n : ℕ) where
-  start-apart : (j l : ℕ) → InStep Start j l → Apart (wireCount n) (startForm j l)
+  start-apart : (j l : ℕ) → InStep 0 Start j l → Apart (wireCount n) (startForm j l)
   unfolding startForm wireCount bit
   start-apart j l h = omega arith
 
-  digest-apart : (j l : ℕ) → InStep Digest j l → Apart (wireCount n) (digestForm (blockFirst (blocks n - 1)) j l)
+  digest-apart : (j l : ℕ) → InStep 0 Digest j l → Apart (wireCount n) (digestForm (blockFirst (blocks n - 1)) j l)
   unfolding digestForm wireCount blocks
   digest-apart j l h = omega arith
 
   module _ (i : ℕ) (h : i < blocks n) where
-    first : 257 ≤ blockFirst i
-    first = omega arith
+    low : 1 ≤ beginsAt (messageOf n i) i
+    low = begins-before (messageOf n i) i (omega arith) .0
+
+    lies : beginsAt (messageOf n i) i + 256 ≤ blockFirst i
+    lies = begins-before (messageOf n i) i (omega arith) .1
 
     last : blockFirst i + wiresPerBlock ≤ wireCount n
     unfolding wireCount
     last = omega arith
 
-    message-apart : (k j l : ℕ) → InStep Message j l → Apart (wireCount n) (messageForm n k (blockFirst i + 32 * j + l))
+    message-apart : (m : MessageSpan) (k b : ℕ) → b < 512 → Apart (wireCount n) (messageForm n m k (blockFirst i + b))
     unfolding messageForm
-    message-apart k j l g =
-        of-cond (Apart (wireCount n)) (ltb k n) (λ t. omega (arith, last))
-        (λ t. omega (arith, last, message-lt n (λ i. 0) (λ k h. omega arith) k))
+    message-apart m k b g =
+        of-cond (Apart (wireCount n)) (ltb k (m .bits)) (λ t. omega (arith, last))
+        (λ t. omega (arith, last, message-lt (m .bits) (λ i. 0) (λ k h. omega arith) k))
 
-    form-apart : (s : Step) (j l : ℕ) → InStep s j l → Apart (wireCount n) (formOf n i s j l)
-    unfolding formOf
+    form-apart : (s : Step) (j l : ℕ) → InStep (appendedRows n) s j l → Apart (wireCount n) (formOf n i s j l)
+    unfolding formOf begins
     form-apart Start j l g = start-apart j l g
-    form-apart Message j l g = message-apart (512 * i + 32 * j + l) j l g
-    form-apart Q j l g = q-apart _ _ first last j l g
-    form-apart P1 j l g = p1-apart _ _ first last j l g
-    form-apart W j l g = w-apart _ _ first last j l g
-    form-apart WPrime j l g = w-prime-apart _ _ first last j l g
-    form-apart U j l g = rw (begins-before i) (u-apart _ _ first last j (g .1) l)
-    form-apart Ss2 j l g = rw (begins-before i) (ss2-apart _ _ first last j (g .1) l (g .2))
-    form-apart Ff j l g = rw (begins-before i) (ff-apart _ _ first last j (g .1) l (g .2))
-    form-apart Gg j l g = rw (begins-before i) (gg-apart _ _ first last j (g .1) l (g .2))
-    form-apart Tt1 j l g = rw (begins-before i) (tt1-apart _ _ first last j (g .1) l)
-    form-apart Tt2 j l g = rw (begins-before i) (tt2-apart _ _ first last j (g .1) l)
-    form-apart P0 j l g = p0-apart _ _ first last j (g .1) l (g .2)
-    form-apart Result j l g = rw (begins-before i) (result-apart _ _ first last j l (g .1) (g .2))
+    form-apart Message j l g = message-apart (messageOf n i) _ (32 * j + l) (omega arith)
+    form-apart Q j l g = q-apart _ _ _ low lies last j l g
+    form-apart P1 j l g = p1-apart _ _ _ low lies last j l g
+    form-apart W j l g = w-apart _ _ _ low lies last j l g
+    form-apart WPrime j l g = w-prime-apart _ _ _ low lies last j l g
+    form-apart U j l g = u-apart _ _ _ low lies last j (g .1) l
+    form-apart Ss2 j l g = ss2-apart _ _ _ low lies last j (g .1) l (g .2)
+    form-apart Ff j l g = ff-apart _ _ _ low lies last j (g .1) l (g .2)
+    form-apart Gg j l g = gg-apart _ _ _ low lies last j (g .1) l (g .2)
+    form-apart Tt1 j l g = tt1-apart _ _ _ low lies last j (g .1) l
+    form-apart Tt2 j l g = tt2-apart _ _ _ low lies last j (g .1) l
+    form-apart P0 j l g = p0-apart _ _ _ low lies last j (g .1) l (g .2)
+    form-apart Result j l g = result-apart _ _ _ low lies last j l (g .1) (g .2)
     form-apart Digest j l g = digest-apart j l g
+    form-apart Appended j l g = absurd (omega arith)
 
-  pub place-apart : (s : Step) (i j l : ℕ) → InRecord n (place s i j l) → Apart (wireCount n) (formOf n i s j l)
+  pub place-apart : (s : Step) (i j l : ℕ) → InCircuit n (place s i j l) → Apart (wireCount n) (formOf n i s j l)
   place-apart s i j l h = form-apart i (h .0) s j l (h .1)
 
   pub row-apart : (k : ℕ) → k < rowCount n → Apart (wireCount n) (formAt n k)
   unfolding formAt
   row-apart k l =
-      let q = placeAt n k in
-      place-apart (q .step) (q .block) (q .index) (q .line) (in-record n k l)
+      let q = placeAt (blocks n) k in
+      place-apart (q .step) (q .block) (q .index) (q .line) (in-circuit n k l)

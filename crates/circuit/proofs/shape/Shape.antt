@@ -5,21 +5,22 @@ use mathlib.Core.Path.{_≡_}
 use Prim.Native.Nat.{ℕ, _<_, _≤_}
 use native.Mathlib.Omega.{arith}
 use lib.ListN.{length, length-append}
-use Rattle.circuit.proofs.shape.All.{all-append, all-both}
-use Rattle.circuit.proofs.shape.Apart.{Parts, letters-few, letters-parts}
-use Rattle.circuit.proofs.shape.Rises.{Part, all-nonzero, all-normal, normal-length, normal-positive, normal-rises}
+use Rattle.block.specs.Steps.{place}
+use Rattle.block.specs.declared.step.Step.{Step}
 use Rattle.circuit.proofs.shape.RowApart.{place-apart, row-apart}
 use Rattle.circuit.specs.Circuit.{formAt, formOf, rowAt}
-use Rattle.circuit.specs.Layout.{wireCount}
-use Rattle.circuit.specs.Places.{place, rowCount}
-use Rattle.circuit.specs.Ranges.{InRecord}
-use Rattle.circuit.specs.Rows.{Row, letters, nonzero, rowOf, terms, normalForm}
-use Rattle.circuit.specs.Shape.{All, Shaped, mostTerms}
-use Rattle.circuit.specs.Terms.{termCount, unsorted}
-use Rattle.circuit.specs.declared.form.Form.{Form}
-use Rattle.circuit.specs.declared.form.Term.{Term}
-use Rattle.circuit.specs.declared.place.Step.{Step}
+use Rattle.circuit.specs.Places.{rowCount}
+use Rattle.circuit.specs.Ranges.{InCircuit}
+use Rattle.circuit.specs.Wires.{wireCount}
 use Rattle.field.specs.Field.{p}
+use Rattle.forms.proofs.shape.All.{all-append, all-both}
+use Rattle.forms.proofs.shape.Apart.{Parts, letters-few, letters-parts}
+use Rattle.forms.proofs.shape.Rises.{Part, all-nonzero, all-normal, normal-length, normal-positive, normal-rises}
+use Rattle.forms.specs.Rows.{Row, letters, nonzero, rowOf, terms, normalForm}
+use Rattle.forms.specs.Shape.{All, Shaped, mostTerms}
+use Rattle.forms.specs.Terms.{termCount, unsorted}
+use Rattle.forms.specs.declared.form.Form.{Form}
+use Rattle.forms.specs.declared.form.Term.{Term}
 
 -- what f leaves of each part, one after the other
 all-parts : (P : Term → Type 0) (f : List Term → List Term) (m : ℕ) → ((ts : List Term) → Part m ts → All P (f ts))
@@ -35,14 +36,14 @@ unfolding rowOf terms unsorted
 normal-count f = simp (length-append, normal-length)
 
 -- a row's terms have room
-pub place-few : (n : ℕ) (s : Step) (i j l : ℕ) → InRecord n (place s i j l) → termCount (formOf n i s j l) ≤ mostTerms
+pub place-few : (n : ℕ) (s : Step) (i j l : ℕ) → InCircuit n (place s i j l) → termCount (formOf n i s j l) ≤ mostTerms
 place-few n s i j l h = letters-few (wireCount n) (formOf n i s j l) (place-apart n s i j l h)
 
 module _ (n k : ℕ) (below : k < rowCount n) where
   parts : Parts (wireCount n) (letters (formAt n k))
   parts = letters-parts (wireCount n) (formAt n k) (row-apart n k below)
 
-  pub shape : Shaped n (rowAt n k)
+  pub shape : Shaped (wireCount n) (rowAt n k)
   unfolding rowAt rowOf terms
   shape =
       let m = wireCount n in

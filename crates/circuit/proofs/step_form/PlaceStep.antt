@@ -2,15 +2,23 @@
 use mathlib.Core.Path.{_≡_, subst}
 use Prim.Native.Nat.{ℕ, _<_, _≤_}
 use native.Mathlib.Omega.{arith}
-use Rattle.circuit.specs.Ranges.{InRecord, InStep}
-use Rattle.circuit.specs.declared.place.Place.{Place}
-use Rattle.circuit.specs.declared.place.Step.{Step}
+use Rattle.block.specs.Bounds.{BlockFrom}
+use Rattle.block.specs.Ranges.{InStep}
+use Rattle.block.specs.declared.place.Place.{Place}
+use Rattle.block.specs.declared.step.Step.{Step}
+use Rattle.circuit.specs.Circuits.{appendedRows}
+use Rattle.circuit.specs.Ranges.{InCircuit, mostBlocks}
+use Rattle.circuit.specs.Wires.{blockFirst}
 use Rattle.sm3.specs.Message.{blocks, mostBits}
 
-module _ (n : ℕ) (p : Place) (fits : (n ≤ mostBits) × InRecord n p) where
-  pub block-below : p .block < 16
+module _ (n : ℕ) (p : Place) (fits : (n ≤ mostBits) × InCircuit n p) where
+  pub block-below : p .block < mostBlocks
   unfolding blocks
   block-below = omega arith
 
-  pub in-step : {s : Step} → p .step ≡ s → InStep s (p .index) (p .line)
-  in-step e = subst (λ (s : Step). InStep s (p .index) (p .line)) e (fits .1 .1)
+  pub in-step : {s : Step} → p .step ≡ s → InStep (appendedRows n) s (p .index) (p .line)
+  in-step e = subst (λ (s : Step). InStep (appendedRows n) s (p .index) (p .line)) e (fits .1 .1)
+
+-- a block's first wire and the words that it begins with, by another name of the first wire
+pub from-first : (F b i : ℕ) → F ≡ blockFirst i → BlockFrom (blockFirst i) b → BlockFrom F b
+from-first F b i e h = record { high = omega (arith, h .high); before = omega (arith, h .before) }

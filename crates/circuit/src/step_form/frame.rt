@@ -1,24 +1,26 @@
-// The rows around the blocks: the start words, which block 0 begins with, and the digest, which the last block ends in.
+// The rows around the blocks: the start words, which a message begins with, the digest, which the last block ends in, and what is
+// appended.
 ghost use mathlib.Core.Path.{_≡_};
 ghost use Prim.Native.Nat.{_-_, _≤_};
+ghost use Rattle.block.specs.Ranges.{InStep};
+ghost use Rattle.block.specs.declared.step.Step.the-variants.{Digest, Start};
 ghost use Rattle.circuit.specs.Circuit.{digestForm, startForm};
-ghost use Rattle.circuit.specs.Ranges.{InStep};
-ghost use Rattle.circuit.specs.Terms.{Fit};
+ghost use Rattle.circuit.specs.Circuits.{appendedForm};
 ghost use Rattle.circuit.specs.Wires.{blockFirst};
-ghost use Rattle.circuit.specs.declared.place.Step.the-variants.{Digest, Start};
+ghost use Rattle.forms.specs.Terms.{Fit};
 ghost use Rattle.sm3.specs.Message.{blocks, mostBits};
-use crate::form::Form;
 use crate::wire::DIGEST;
-use crate::wire::RESULT;
 use crate::wire::START;
 use crate::wire::block_first;
+use block::wire::RESULT;
+use forms::form::Form;
 use refusal::numbers::WireNumber;
 use sm3::constants::start_word;
 use sm3::message::block_count;
 
 // Line l of start word k.
 pub fn start_form(k: u64, l: u64) -> Form
-    requires { ⌜ InStep Start k l ⌝ }
+    requires { ⌜ InStep 0 Start k l ⌝ }
     ensures { λ f. ⌜ (f ≡ startForm k l) × Fit f ⌝ }
 {
     let word = start_word(k as usize);
@@ -30,7 +32,7 @@ pub fn start_form(k: u64, l: u64) -> Form
 
 // Line l of digest word k, which is the last block's result.
 pub fn digest_form(bits: u64, k: u64, l: u64) -> Form
-    requires { ⌜ (bits ≤ mostBits) × InStep Digest k l ⌝ }
+    requires { ⌜ (bits ≤ mostBits) × InStep 0 Digest k l ⌝ }
     ensures { λ f. ⌜ (f ≡ digestForm (blockFirst (blocks bits - 1)) k l) × Fit f ⌝ }
 {
     let last = block_first(block_count(bits) - 1);
@@ -38,4 +40,11 @@ pub fn digest_form(bits: u64, k: u64, l: u64) -> Form
         x: WireNumber(DIGEST + 32 * k + l),
         y: WireNumber(last.0 + RESULT + 32 * k + l),
     }
+}
+
+// Appended row k. A record has none.
+pub fn appended_form(bits: u64, k: u64) -> Form
+    ensures { λ f. ⌜ (f ≡ appendedForm bits k) × Fit f ⌝ }
+{
+    Form::Bit { w: WireNumber(0) }
 }

@@ -1,18 +1,21 @@
 // The rows of a block's 512 bits, which are those of the padded message.
 ghost use mathlib.Core.Path.{_≡_};
 ghost use Prim.Native.Nat.{_+_, _*_, _<_, _≤_};
-ghost use Rattle.circuit.specs.Circuit.{messageForm};
-ghost use Rattle.circuit.specs.Ranges.{InStep};
-ghost use Rattle.circuit.specs.Terms.{Fit};
+ghost use Rattle.block.specs.Ranges.{InStep};
+ghost use Rattle.block.specs.declared.step.Step.the-variants.{Message};
+ghost use Rattle.circuit.specs.Circuit.{messageBit, messageForm};
+ghost use Rattle.circuit.specs.Circuits.{contentForm};
+ghost use Rattle.circuit.specs.Ranges.{OfMessage};
 ghost use Rattle.circuit.specs.Wires.{blockFirst};
-ghost use Rattle.circuit.specs.declared.place.Step.the-variants.{Message};
+ghost use Rattle.forms.specs.Terms.{Fit};
 ghost use Rattle.sm3.specs.Message.{blocks, message, mostBits};
-use crate::form::Form;
+use crate::message::MessageSpan;
 use crate::wire::block_first;
+use forms::form::Form;
 use refusal::numbers::WireNumber;
 use sm3::message::block_count;
 
-// Bit k of the message of a record of so many bits, past the record.
+// Bit k of a message of so many bits, past its content.
 fn padding_bit(bits: u64, k: u64) -> u64
     requires { ⌜ (bits ≤ mostBits) × (bits ≤ k) × (k < 512 * blocks bits) ⌝ }
     ensures { λ r. ⌜ (r ≡ message bits (λ i. 0) k) × (r < 2) ⌝ }
@@ -27,19 +30,28 @@ fn padding_bit(bits: u64, k: u64) -> u64
     (bits >> (end - 1 - k)) % 2
 }
 
-// Line l of word j of block i: the record is free in its bits, and the padding is fixed.
-pub fn message_form(bits: u64, i: u64, j: u64, l: u64) -> Form
-    requires { ⌜ (bits ≤ mostBits) × (i < blocks bits) × (i < 16) × InStep Message j l ⌝ }
-    ensures { λ f. ⌜ (f ≡ messageForm bits (512 * i + 32 * j + l) (blockFirst i + 32 * j + l)) × Fit f ⌝ }
+// The form of a bit of a record: its wire is free.
+fn content_form(bits: u64, w: WireNumber) -> Form
+    ensures { λ f. ⌜ (f ≡ contentForm bits w) × Fit f ⌝ }
 {
-    let k = 512 * i + 32 * j + l;
+    Form::Bit { w }
+}
+
+// Line l of word j of block i, which is one of the message: its content is the circuit's, for a record of so many bits, and its
+// padding is fixed.
+pub fn message_form(bits: u64, message: MessageSpan, i: u64, j: u64, l: u64) -> Form
+    requires { ⌜ OfMessage message i × InStep 0 Message j l ⌝ }
+    ensures { λ f. ⌜ (f ≡ messageForm bits message (messageBit message i (32 * j + l)) (blockFirst i + (32 * j + l))) × Fit f ⌝ }
+{
+    let b = 32 * j + l;
+    let k = 512 * (i - message.begin) + b;
     let first = block_first(i);
-    let w = WireNumber(first.0 + 32 * j + l);
-    if k < bits {
-        return Form::Bit { w };
+    let w = WireNumber(first.0 + b);
+    if k < message.bits {
+        return content_form(bits, w);
     }
     Form::Fixed {
         w,
-        bit: padding_bit(bits, k),
+        bit: padding_bit(message.bits, k),
     }
 }

@@ -3,8 +3,6 @@ use mathlib.Core.Path.{_∙_, ap, subst, sym}
 use native.Mathlib.Omega.{arith}
 use borrow.Author.Needs.{needs}
 use Rattle.circuit.proofs.place.NextPlace.{Inner, after, next-line}
-use Rattle.circuit.specs.Places.{rowCount}
-use Rattle.sm3.specs.Message.{blocks}
 use Rattle.circuit.proofs.place.next_place.Statement.{statement}
 use Rattle.circuit.proofs.place.next_place.Tie as tie
 
@@ -19,12 +17,11 @@ add-t8 c = search needs
 
 returns : tie.Need-returns
 returns c =
-    let at = c .before .before .before .before .pre .2 in
+    let at = c .before .before .before .before .pre .3 in
     ap after at ∙ sym (next-line _ _ (omega arith) (subst Inner at (omega arith)))
 
 add-t6 : tie.Need-add-t6
-unfolding blocks rowCount
-add-t6 c = omega arith
+add-t6 c = search needs
 
 place-of-requires : tie.Need-place-of-requires
 place-of-requires c κs = search needs

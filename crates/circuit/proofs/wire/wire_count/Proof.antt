@@ -1,6 +1,6 @@
 -- The layout's count.
 use borrow.Author.Needs.{needs}
-use Rattle.circuit.specs.Layout.{wireCount}
+use Rattle.circuit.specs.Wires.{wireCount}
 use Rattle.circuit.proofs.wire.wire_count.Statement.{statement}
 use Rattle.circuit.proofs.wire.wire_count.Tie as tie
 

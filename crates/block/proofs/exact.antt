@@ -1,0 +1,4 @@
+pub mod Block
+pub mod BlockExpansion
+pub mod BlockRounds
+pub mod States

@@ -1,0 +1,62 @@
+-- A block's rows hold exactly where its wires agree. The words that it begins with are carried and its 512 bits agree; then
+-- come the expansion, the words W', the rounds and the results, each given those before it.
+use mathlib.Core.Logic.{_↔_}
+use mathlib.Core.Path.{subst, sym}
+use Prim.Native.Nat.{ℕ, _+_, _<_}
+use native.Mathlib.Omega.{arith}
+use Rattle.block.specs.Steps.{computedRows}
+use Rattle.block.proofs.exact.BlockExpansion.{expansion-run, expansionForms, pairs-carried, pairs-run, words-carried}
+use Rattle.block.proofs.exact.BlockRounds.{rounds-end, rounds-run, roundsForms}
+use Rattle.block.proofs.exact.States.{CarriesState, carries-nth, xor-nth}
+use Rattle.block.specs.BlockWires.{computedWires, stateWires}
+use Rattle.block.specs.StepForms.{resultForm, wPrimeForm}
+use Rattle.block.specs.Wires.{computedPerBlock, expansionAt, pairsAt, resultAt, resultFirst, roundsAt, stands, StatePosition}
+use Rattle.encoding.specs.Sequence.{beside, grid}
+use Rattle.forms.proofs.exact.Carries.{Makes, makes-xor-two}
+use Rattle.forms.proofs.exact.Parts.{agree-past, then-at}
+use Rattle.forms.proofs.exact.Runs.{Agree, Holds, Judged, each}
+use Rattle.forms.specs.declared.form.Form.{Form}
+use Rattle.sm3.specs.Sm3.{block, expansion, wordOf, xorState}
+use Rattle.sm3.specs.declared.state.State.{State}
+
+-- the rows of a block after those of its 512 bits
+unfoldable pub blockForms : ℕ → StatePosition → ℕ → Form
+blockForms F v =
+    beside 9984 (grid 192 (λ j. expansionForms F (16 + j)))
+    (beside 2048 (grid 32 (wPrimeForm F))
+    (beside 19520 (roundsForms F v)
+    (grid 32 (resultForm F v))))
+
+module _ (a : ℕ → ℕ) (J : Judged a) (F : ℕ) (v : StatePosition) (B : State) (begun : CarriesState a v B) where
+  module _ (S : State) (done : CarriesState a (stands F v 64) S) where
+    makes-result : (k : ℕ) → k < 8 → Makes a 32 (resultForm F v k) (resultFirst F k) (wordOf (xorState S B) k)
+    unfolding resultForm
+    makes-result k l =
+        subst (Makes a 32 (resultForm F v k) (resultFirst F k)) (sym (xor-nth S B k l))
+        (makes-xor-two a J (carries-nth done k l) (carries-nth begun k l) (resultFirst F k))
+
+    results-run : Holds a 256 (grid 32 (resultForm F v)) ↔ Agree a (F + resultAt) 256 (stateWires (xorState S B))
+    unfolding stateWires
+    results-run = each a (F + resultAt) 8 32 32 _ _ (λ k l earlier. makes-result k l .run)
+
+  module _ (b : ℕ → ℕ) (bits : (k : ℕ) → k < 512 → b k < 2) (given : Agree a F 512 b) where
+    pub block-run : Holds a computedRows (blockForms F v) ↔ Agree a (F + expansionAt) computedPerBlock (computedWires b B)
+    unfolding blockForms computedWires block
+    block-run =
+        then-at a (F + expansionAt) (F + pairsAt) 9984 21824 4992 17024 _ _ _ _ (omega arith) (expansion-run a J F b bits given)
+        (λ expanded.
+        let words = words-carried a J F b bits given expanded in
+        then-at a (F + pairsAt) (F + roundsAt) 2048 19776 2048 14976 _ _ _ _ (omega arith) (pairs-run a J F (expansion b 68) words)
+        (λ paired.
+        let pairs = pairs-carried a J F (expansion b 68) words paired in
+        then-at a (F + roundsAt) (F + resultAt) 19520 256 14720 256 _ _ _ _ (omega arith)
+        (rounds-run a J F (expansion b 68) words pairs v B begun)
+        (λ rounded. results-run _ (rounds-end a J F (expansion b 68) words pairs v B begun rounded))))
+
+pub results-agree : (a : ℕ → ℕ) (F : ℕ) (b : ℕ → ℕ) (B : State) → Agree a (F + expansionAt) computedPerBlock (computedWires b B)
+    → Agree a (F + resultAt) 256 (stateWires (block b B))
+unfolding computedWires
+results-agree a F b B e =
+    agree-past a (F + roundsAt) (F + resultAt) 14720 256 _ _ (omega arith)
+    (agree-past a (F + pairsAt) (F + roundsAt) 2048 14976 _ _ (omega arith)
+    (agree-past a (F + expansionAt) (F + pairsAt) 4992 17024 _ _ (omega arith) e))

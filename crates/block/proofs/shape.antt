@@ -1,0 +1,2 @@
+pub mod BlockApart
+pub mod Standing

@@ -1,0 +1,6 @@
+pub mod BlockWires
+pub mod Bounds
+pub mod Ranges
+pub mod StepForms
+pub mod Steps
+pub mod Wires

@@ -1,0 +1,2 @@
+pub mod exact
+pub mod shape

@@ -1,0 +1,7 @@
+pub mod Carries
+pub mod Forms
+pub mod Parts
+pub mod Runs
+pub mod Sums
+pub mod Values
+pub mod Words

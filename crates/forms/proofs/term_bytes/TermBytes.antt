@@ -1,0 +1,77 @@
+-- The bytes of terms and how they are written: a number byte by byte, a term's coefficient behind its wire, and term
+-- behind term.
+use mathlib.Core.List.{List, [], _∷_, _++_, append-assoc, append-nil}
+use mathlib.Core.Path.{_≡_, refl, ap, ap₂, sym, _∙_}
+use Prim.Native.Nat.{ℕ, suc, zero-le, _+_, _*_, _<_, _≤_}
+use native.Mathlib.Numerals.{add-one}
+use native.Mathlib.Omega.{arith}
+use lib.ListN.{drop, getD, length, length-append, take}
+use lib.Seq.{length-take-le, split-at, take-all, take-suc}
+use Rattle.encoding.proofs.Bytes.{length-least-first}
+use Rattle.encoding.proofs.Written.{length-written, written-as, written-none, written-then}
+use Rattle.encoding.specs.Bytes.{leastFirst}
+use Rattle.encoding.specs.Written.{Written}
+use Rattle.forms.proofs.terms.Flat.{coefficient-at, wire-at}
+use Rattle.forms.specs.Positions.{one}
+use Rattle.forms.specs.Rows.{_·_}
+use Rattle.forms.specs.TermBytes.{termBytes, termsBytes}
+use Rattle.forms.specs.Terms.{flat}
+use Rattle.forms.specs.declared.form.Term.{Term}
+
+term-length : (t : Term) → length (termBytes t) ≡ 12
+unfolding termBytes
+term-length t =
+    length-append (leastFirst 4 (t .wire .0)) (leastFirst 8 (t .coefficient))
+    ∙ ap₂ (λ m n. m + n) (length-least-first 4 (t .wire .0)) (length-least-first 8 (t .coefficient))
+
+-- a term's coefficient goes behind its wire
+pub next-number : {at : ℕ} {l l′ l″ : List ℕ} (t : Term) → Written at (leastFirst 4 (t .wire .0)) l l′
+    → Written (at + 4) (leastFirst 8 (t .coefficient)) l′ l″ → Written at (termBytes t) l l″
+unfolding termBytes
+next-number {at} t h h′ = written-then (at + 4) (ap (λ k. at + k) (sym (length-least-first 4 (t .wire .0)))) h h′
+
+terms-snoc : (ts : List Term) (t : Term) → termsBytes (ts ++ (t ∷ [])) ≡ termsBytes ts ++ termBytes t
+unfolding termsBytes
+terms-snoc [] t = append-nil (termBytes t)
+terms-snoc (s ∷ ts) t = ap (λ l. termBytes s ++ l) (terms-snoc ts t) ∙ sym (append-assoc (termBytes s) (termsBytes ts) (termBytes t))
+
+pub length-terms : (ts : List Term) → length (termsBytes ts) ≡ 12 * length ts
+unfolding termsBytes
+length-terms [] = refl
+length-terms (t ∷ ts) = omega (arith, length-append (termBytes t) (termsBytes ts), term-length t, length-terms ts)
+
+-- the first i of n terms are written at the front
+pub record TermsWritten (terms : List ℕ) (n : ℕ) (before after : List ℕ) (i : ℕ) : Type 0 where
+  pub within : i ≤ n
+  pub kept : length after ≡ length before
+  pub bytes : (ts : List Term) (rest : List ℕ) → length ts ≡ n → terms ≡ flat ts ++ rest
+      → Written 0 (termsBytes (take i ts)) before after
+
+pub terms-none : (terms : List ℕ) (n : ℕ) (l : List ℕ) → TermsWritten terms n l l 0
+unfolding termsBytes
+terms-none terms n l = record { within = zero-le; kept = refl; bytes = λ ts rest long e. written-none 0 l }
+
+module _ {terms : List ℕ} {n : ℕ} {l m : List ℕ} {i : ℕ} (h : TermsWritten terms n l m i) where
+  pub terms-next : {r : List ℕ} → i < n
+      → Written (12 * i) (termBytes (getD terms (2 * i + 1) 0 · record { 0 = getD terms (2 * i) 0 })) m r
+      → TermsWritten terms n l r (i + 1)
+  terms-next {r} low e = record { within = omega arith; kept = length-written e ∙ h .kept; bytes = next }
+    where
+      next : (ts : List Term) (rest : List ℕ) → length ts ≡ n → terms ≡ flat ts ++ rest
+          → Written 0 (termsBytes (take (i + 1) ts)) l r
+      next ts rest long f =
+          let t = getD ts i (0 · one) in
+          let below : i < length ts = omega arith in
+          let here : length (take i ts) ≡ i = length-take-le i ts (omega arith) in
+          let apart = f ∙ ap (λ x. flat x ++ rest) (split-at ts i (0 · one) below) in
+          let wire = ap (λ x. getD x (2 * i) 0) apart ∙ wire-at (take i ts) rest t (drop (suc i) ts) i here in
+          let coefficient = ap (λ x. getD x (2 * i + 1) 0) apart ∙ coefficient-at (take i ts) rest t (drop (suc i) ts) i here in
+          let same = ap₂ (λ w k. termBytes (k · record { 0 = w })) wire coefficient in
+          let end : 12 * i ≡ 0 + length (termsBytes (take i ts)) = omega (arith, length-terms (take i ts)) in
+          rw (add-one i, take-suc ts i (0 · one) below, terms-snoc (take i ts) t)
+          (written-then (12 * i) end (h .bytes ts rest long f) (written-as same e))
+
+  pub terms-all : n ≤ i → (ts : List Term) (rest : List ℕ) → length ts ≡ n → terms ≡ flat ts ++ rest → Written 0 (termsBytes ts) l m
+  terms-all high ts rest long f =
+      let whole : take i ts ≡ ts = take-all i ts (omega arith) in
+      rw whole at (h .bytes ts rest long f)

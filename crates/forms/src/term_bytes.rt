@@ -1,0 +1,39 @@
+// The bytes of terms: 12 a term, its wire in 4 and its coefficient in 8, the least byte first.
+ghost use mathlib.Core.List.{List, _++_};
+ghost use mathlib.Core.Path.{_≡_};
+ghost use Prim.Native.Nat.{ℕ, _+_, _*_, _≤_};
+ghost use lib.ListN.{length};
+ghost use Rattle.encoding.specs.Written.{Written};
+ghost use Rattle.forms.specs.TermBytes.{termBytes, termsBytes};
+ghost use Rattle.forms.specs.Terms.{flat};
+ghost use Rattle.forms.specs.declared.form.Term.{Term};
+use crate::form::Term;
+use encoding::write::put_number;
+use refusal::numbers::WireNumber;
+
+// Writes the 12 bytes of a term from `at` on.
+fn put_term(out: &mut [u8], at: usize, term: Term)
+    requires { ⌜ at + 12 ≤ length (now out) ⌝ }
+    ensures { λ _. ⌜ Written at (termBytes term) (now (out .entry)) (now (out .exit)) ⌝ }
+{
+    let wire = term.wire;
+    put_number(out, at, 4, wire.0);
+    put_number(out, at + 4, 8, term.coefficient);
+}
+
+// Writes the first n terms to the front of `out`.
+pub fn put_terms(terms: &[u64], n: usize, out: &mut [u8])
+    requires { ⌜ (2 * n ≤ length (now terms)) × (12 * n ≤ length (now out)) ⌝ }
+    ensures { λ _. ⌜ ((ts : List Term) (rest : List ℕ) → length ts ≡ n → now (terms .entry) ≡ flat ts ++ rest → Written 0 (termsBytes ts) (now (out .entry)) (now (out .exit))) ⌝ }
+{
+    for i in 0..n {
+        put_term(
+            out,
+            12 * i,
+            Term {
+                wire: WireNumber(terms[2 * i]),
+                coefficient: terms[2 * i + 1],
+            },
+        );
+    }
+}
