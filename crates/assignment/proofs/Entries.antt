@@ -11,9 +11,9 @@ use lib.Dec.{lit<}
 use lib.ListN.{List·getD-append, getD, length, length-append, take}
 use lib.Seq.{getD-append-add, getD-take}
 use Rattle.assignment.specs.Assignment.{entry, entryBytes}
-use Rattle.field.specs.Field.{p}
 use Rattle.encoding.proofs.Bytes.{from-bytes-congruent, from-least-first, length-least-first}
 use Rattle.encoding.specs.Bytes.{fromLeastFirst, leastFirst}
+use Rattle.field.specs.Field.{p}
 
 pub entry-lt : (bytes : List ℕ) (w : ℕ) → entry bytes w < p
 unfolding entry

@@ -5,7 +5,7 @@ use Prim.Native.Nat.{ℕ, _/_, _%_, _^_}
 use native.Mathlib.Omega.{arith}
 use Rattle.assignment.specs.Sum.{IsSum}
 use Rattle.assignment.specs.declared.sum.Sum.{Sum}
-use Rattle.circuit.specs.Layout.{carryWires}
+use Rattle.forms.specs.WordWires.{carryWires}
 
 passed : (s : Sum) (whole : ℕ) → IsSum s whole → s .carry ≡ whole / 2 ^ 32
 passed s whole h = omega (arith, h .word, h .carry)

@@ -8,13 +8,13 @@ use native.Mathlib.Decide.{decLt}
 use native.Mathlib.Nat.{add-suc, add-zero, mul-add, mul-one}
 use native.Mathlib.Omega.{arith}
 use lib.ListN.{drop, length}
+use Rattle.assignment.proofs.Entries.{length-entries}
 use Rattle.assignment.specs.Assignment.{entryBytes}
 use Rattle.assignment.specs.Wrote.{Wrote}
-use Rattle.assignment.proofs.Entries.{length-entries}
 use Rattle.encoding.proofs.Sequence.{beside-first, beside-then, grid-at}
+use Rattle.encoding.proofs.Written.{length-written, written-as, written-before, written-front, written-none, written-then}
 use Rattle.encoding.specs.Bytes.{leastFirst}
 use Rattle.encoding.specs.Sequence.{beside, grid}
-use Rattle.encoding.proofs.Written.{length-written, written-as, written-before, written-front, written-none, written-then}
 
 -- The bytes of entries.
 

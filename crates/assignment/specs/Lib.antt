@@ -1,7 +1,4 @@
 pub mod Assignment
-pub mod Check
-pub mod Demand3
-pub mod Lent
-pub mod Produce
 pub mod Sum
+pub mod Values
 pub mod Wrote

@@ -3,15 +3,15 @@ ghost use mathlib.Core.Path.{_≡_};
 ghost use Prim.Native.Nat.{ℕ, _+_, _*_, _<_, _≤_};
 ghost use lib.ListN.{length, take};
 ghost use Rattle.assignment.specs.Wrote.{Wrote};
-ghost use Rattle.circuit.specs.Layout.{expansionWires, wordWires};
-ghost use Rattle.sm3.specs.Sm3.{P1, expanded, expansion, mixed, pairWord};
+ghost use Rattle.block.specs.BlockWires.{expansionWires};
+ghost use Rattle.block.specs.Wires.{expansionWidth};
 ghost use Rattle.encoding.specs.Sequence.{beside, grid};
-ghost use Rattle.circuit.specs.Wires.{expansionWidth};
+ghost use Rattle.forms.specs.WordWires.{wordWires};
+ghost use Rattle.sm3.specs.Sm3.{P1, expanded, expansion, mixed, pairWord};
+use crate::values::expansion_values;
 use crate::wires::put_word;
-use circuit::wire::EXPANSION_WIDTH;
+use block::wire::EXPANSION_WIDTH;
 use refusal::numbers::WireNumber;
-use sm3::words::p1;
-use sm3::words::rotate_left;
 
 // q, P1(q) and Wj, from the words before it, on the 96 wires from w on.
 fn put_expanded(out: &mut [u8], w: WireNumber, x: &[u32; 68], j: usize) -> u32
@@ -19,13 +19,11 @@ fn put_expanded(out: &mut [u8], w: WireNumber, x: &[u32; 68], j: usize) -> u32
     ensures { λ r. ⌜ r ≡ expanded (now (x .entry)) j ⌝ }
     ensures { λ r. ⌜ Wrote (w .0) expansionWidth (beside 32 (wordWires (mixed (now (x .entry)) j)) (beside 32 (wordWires (P1 (mixed (now (x .entry)) j))) (wordWires r))) (now (out .entry)) (now (out .exit)) ⌝ }
 {
-    let q = x[j - 16] ^ x[j - 9] ^ rotate_left(x[j - 3], 15);
-    let p = p1(q);
-    let r = p ^ rotate_left(x[j - 13], 7) ^ x[j - 6];
-    put_word(out, w, q);
-    put_word(out, WireNumber(w.0 + 32), p);
-    put_word(out, WireNumber(w.0 + 64), r);
-    r
+    let r = expansion_values(x, j);
+    put_word(out, w, r.q);
+    put_word(out, WireNumber(w.0 + 32), r.p1);
+    put_word(out, WireNumber(w.0 + 64), r.word);
+    r.word
 }
 
 // W16 to W67 with q and P1(q), from W0 to W15, on the 4,992 wires from w on and into `x`.

@@ -1,11 +1,8 @@
-// The assignment of a record, and the check of an assignment against a digest.
-pub mod block;
-pub mod check;
+// Assignments: their entries, and the wires of a block.
+pub mod block_wires;
 pub mod entry;
 pub mod expansion;
-pub mod produce;
 pub mod rounds;
-pub mod rows_check;
-pub mod satisfaction;
 pub mod sum;
+pub mod values;
 pub mod wires;

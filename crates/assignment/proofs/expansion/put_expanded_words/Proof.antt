@@ -1,36 +1,25 @@
 -- Before turn j the array has the words before W(16+j), and their wires are written. Wj and q read only words before it, so
 -- they are those of the whole expansion.
-use Prim.Native.Nat.{ℕ, _+_, _-_, _*_, _<_, _≤_}
-use borrow.Author.Needs.{needs}
-use lib.ListN.{getD, length, length-set, take}
-use lib.Seq.{take-all}
-use mathlib.Core.List.{List}
-use mathlib.Core.Path.{_≡_, _∙_, ap, ap₂, refl, sym}
+use mathlib.Core.Path.{_≡_, _∙_, refl, sym}
+use Prim.Native.Nat.{ℕ, _+_, _-_, _*_, _≤_}
 use native.Mathlib.Omega.{arith}
+use borrow.Author.Needs.{needs}
+use lib.ListN.{length, length-set, take}
+use lib.Seq.{take-all}
+use Rattle.assignment.proofs.OneMore.{expanded-wires}
 use Rattle.assignment.proofs.Writes.{length-wrote, wrote-as, wrote-none, wrote-row}
 use Rattle.assignment.specs.Wrote.{Wrote}
-use Rattle.circuit.specs.Layout.{expansionWires, wordWires}
-use Rattle.circuit.specs.Wires.{expansionWidth}
-use Rattle.encoding.specs.Sequence.{beside, grid}
-use Rattle.sm3.proofs.expansion.FirstWords.{W-expanded, getD-expansion, mixed-take, store-expanded, take-expansion}
-use Rattle.sm3.specs.Sm3.{P1, expanded, expansion, mixed}
+use Rattle.block.specs.BlockWires.{expansionWires}
+use Rattle.block.specs.Wires.{expansionWidth}
+use Rattle.encoding.specs.Sequence.{grid}
+use Rattle.sm3.proofs.expansion.FirstWords.{store-expanded}
+use Rattle.sm3.specs.Sm3.{expansion}
 use Rattle.assignment.proofs.expansion.put_expanded_words.Statement.{statement}
 use Rattle.assignment.proofs.expansion.put_expanded_words.Tie as tie
 
 -- the wires of the expansion
 abbrev words : (ℕ → ℕ) → ℕ → ℕ
 words bits = grid expansionWidth (λ j. expansionWires (expansion bits 68) (16 + j))
-
--- q, P1(q) and Wj are those of the whole expansion
-expanded-wires : (bits : ℕ → ℕ) (x : List ℕ) (j : ℕ) {r : ℕ} → 16 ≤ j → j < 68 → take j x ≡ expansion bits j → r ≡ expanded x j
-    → beside 32 (wordWires (mixed x j)) (beside 32 (wordWires (P1 (mixed x j))) (wordWires r)) ≡ expansionWires (expansion bits 68) j
-unfolding expansionWires
-expanded-wires bits x j h l e r =
-    let whole : take j x ≡ take j (expansion bits 68) = e ∙ sym (take-expansion bits j 68 (omega arith)) in
-    let q : mixed x j ≡ mixed (expansion bits 68) j =
-    sym (mixed-take x j h) ∙ ap (λ w. mixed w j) whole ∙ mixed-take (expansion bits 68) j h in
-    let word : _ ≡ getD (expansion bits 68) j 0 = r ∙ sym (W-expanded bits x j h e) ∙ sym (getD-expansion bits 68 j l) in
-    ap₂ (λ q r. beside 32 (wordWires q) (beside 32 (wordWires (P1 q)) (wordWires r))) q word
 
 abbrev Inv-loop : tie.InvT-loop
 Inv-loop out₀ w x₀ j₀ out x j =
@@ -84,7 +73,7 @@ loop-again c =
             store-expanded (16 + (j + 1)) (omega arith) (put .ensures .0) (record { full = l .loop .inv .1; words = known .0 }) .words,
             wrote-row (λ j. expansionWires (expansion bits 68) (16 + j)) j _ refl (known .1)
                 (wrote-as
-                (expanded-wires bits x (16 + j) (omega arith) (omega arith) (known .0) (put .ensures .0)) (put .ensures .1)),
+                (expanded-wires bits x (16 + j) (omega arith) (omega arith) (known .0) refl refl (put .ensures .0)) (put .ensures .1)),
           ),
     )
 

@@ -1,13 +1,13 @@
 -- Before turn j the wires of the first j pairs are written; a turn writes the next row of the grid.
-use Prim.Native.Nat.{ℕ, _-_, _*_, _≤_}
-use borrow.Author.Needs.{needs}
 use mathlib.Core.List.{List}
 use mathlib.Core.Path.{_≡_, refl}
+use Prim.Native.Nat.{ℕ, _-_, _*_, _≤_}
 use native.Mathlib.Omega.{arith}
+use borrow.Author.Needs.{needs}
 use Rattle.assignment.proofs.Writes.{length-wrote, wrote-none, wrote-row}
 use Rattle.assignment.specs.Wrote.{Wrote}
-use Rattle.circuit.specs.Layout.{wordWires}
 use Rattle.encoding.specs.Sequence.{grid}
+use Rattle.forms.specs.WordWires.{wordWires}
 use Rattle.sm3.specs.Sm3.{pairWord}
 use Rattle.assignment.proofs.expansion.put_pairs.Statement.{statement}
 use Rattle.assignment.proofs.expansion.put_pairs.Tie as tie

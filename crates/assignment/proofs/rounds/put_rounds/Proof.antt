@@ -1,26 +1,20 @@
 -- Before turn j the state is what j rounds have made of v, and the wires of these rounds are written.
-use Prim.Native.Nat.{ℕ, _+_, _-_, _*_, _≤_}
-use borrow.Author.Needs.{needs}
-use denote.Ref.{now}
-use lib.ListN.{getD}
 use mathlib.Core.List.{List}
-use mathlib.Core.Path.{_≡_, _∙_, ap, refl, sym}
+use mathlib.Core.Path.{_≡_, ap, refl}
+use Prim.Native.Nat.{ℕ, _-_, _*_, _≤_}
 use native.Mathlib.Omega.{arith}
+use borrow.Author.Needs.{needs}
+use Rattle.assignment.proofs.OneMore.{one-round}
 use Rattle.assignment.proofs.Writes.{length-wrote, wrote-as, wrote-none, wrote-row}
 use Rattle.assignment.specs.Wrote.{Wrote}
-use Rattle.circuit.specs.Layout.{roundWires}
-use Rattle.circuit.specs.Wires.{roundWidth}
+use Rattle.block.specs.BlockWires.{roundWires}
+use Rattle.block.specs.Wires.{roundWidth}
 use Rattle.encoding.specs.Sequence.{grid}
-use Rattle.sm3.proofs.rounds.FirstRounds.{rounds-next}
-use Rattle.sm3.specs.Sm3.{pairWord, roundOf, rounds}
+use Rattle.sm3.specs.Sm3.{rounds}
 use Rattle.sm3.specs.declared.state.State.{State}
+use denote.Ref.{now}
 use Rattle.assignment.proofs.rounds.put_rounds.Statement.{statement}
 use Rattle.assignment.proofs.rounds.put_rounds.Tie as tie
-
--- one round more
-one-more : (x : List ℕ) (v : State) (j : ℕ) {s s′ : State} → s′ ≡ roundOf j (getD x j 0) (pairWord x j) s → s ≡ rounds x v j
-    → s′ ≡ rounds x v (j + 1)
-one-more x v j e d = e ∙ ap (roundOf j (getD x j 0) (pairWord x j)) d ∙ sym (rounds-next x v j)
 
 -- the wires of all rounds
 abbrev wires : List ℕ → State → ℕ → ℕ
@@ -61,7 +55,7 @@ loop-again c =
     let x = now (a .x) in
     let put = c .before .before .put-round in (
       omega arith,
-      one-more x (a .v) j (put .ensures .0) (l .loop .inv .1),
+      one-round x (a .v) j (put .ensures .0) (l .loop .inv .1),
       wrote-row (λ j. roundWires x j (rounds x (a .v) j)) j _ refl (l .loop .inv .2)
           (wrote-as (ap (roundWires x j) (l .loop .inv .1)) (put .ensures .1)),
     )

@@ -1,8 +1,8 @@
 -- The four are written one after the other.
-use Prim.Native.Nat.{_+_}
-use borrow.Author.Needs.{needs}
 use mathlib.Core.Path.{refl}
+use Prim.Native.Nat.{_+_}
 use native.Mathlib.Omega.{arith}
+use borrow.Author.Needs.{needs}
 use Rattle.assignment.proofs.Writes.{wrote-then}
 use Rattle.assignment.proofs.rounds.put_summands.Statement.{statement}
 use Rattle.assignment.proofs.rounds.put_summands.Tie as tie

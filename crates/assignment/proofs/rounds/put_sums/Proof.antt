@@ -1,7 +1,7 @@
 -- The three are written one after the other.
 use Prim.Native.Nat.{_+_}
-use borrow.Author.Needs.{needs}
 use native.Mathlib.Omega.{arith}
+use borrow.Author.Needs.{needs}
 use Rattle.assignment.proofs.Writes.{wrote-then}
 use Rattle.assignment.proofs.rounds.put_sums.Statement.{statement}
 use Rattle.assignment.proofs.rounds.put_sums.Tie as tie

@@ -1,6 +1,6 @@
 -- The eight words, by their number, are those of the array.
 use borrow.Author.Needs.{needs}
-use Rattle.circuit.specs.Layout.{stateWires}
+use Rattle.block.specs.BlockWires.{stateWires}
 use Rattle.sm3.specs.Sm3.{wordOf}
 use Rattle.assignment.proofs.wires.put_state.Statement.{statement}
 use Rattle.assignment.proofs.wires.put_state.Tie as tie

@@ -1,12 +1,12 @@
 -- The word that the hash keeps of the sum, and after it the two bits of what passes 2^32: the sum with nothing dropped is made
 -- of both, so they are its carries.
-use Prim.Native.Nat.{_+_}
-use borrow.Author.Needs.{needs}
 use mathlib.Core.Path.{ap, refl}
+use Prim.Native.Nat.{_+_}
 use native.Mathlib.Omega.{arith}
+use borrow.Author.Needs.{needs}
 use Rattle.assignment.proofs.HashSums.{higher-carry, lower-carry}
 use Rattle.assignment.proofs.Writes.{wrote-as, wrote-next, wrote-none, wrote-then}
-use Rattle.circuit.specs.Layout.{carryWires, sumWires, wordWires}
+use Rattle.forms.specs.WordWires.{carryWires, sumWires, wordWires}
 use Rattle.assignment.proofs.wires.put_sum.Statement.{statement}
 use Rattle.assignment.proofs.wires.put_sum.Tie as tie
 

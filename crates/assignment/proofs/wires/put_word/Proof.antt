@@ -1,11 +1,11 @@
 -- Before turn i the first i bits are written; a turn writes the next.
-use Prim.Native.Nat.{_-_, _≤_}
-use borrow.Author.Needs.{needs}
 use mathlib.Core.Path.{_≡_, refl}
+use Prim.Native.Nat.{_-_, _≤_}
 use native.Mathlib.Omega.{arith}
+use borrow.Author.Needs.{needs}
 use Rattle.assignment.proofs.Writes.{length-wrote, wrote-next, wrote-none}
 use Rattle.assignment.specs.Wrote.{Wrote}
-use Rattle.circuit.specs.Layout.{wordWires}
+use Rattle.forms.specs.WordWires.{wordWires}
 use Rattle.assignment.proofs.wires.put_word.Statement.{statement}
 use Rattle.assignment.proofs.wires.put_word.Tie as tie
 

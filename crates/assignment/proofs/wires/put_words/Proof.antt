@@ -1,14 +1,14 @@
 -- Before turn j the wires of the first j words are written; a turn writes the next row of the grid.
-use Prim.Native.Nat.{ℕ, _-_, _*_, _≤_}
-use borrow.Author.Needs.{needs}
-use lib.ListN.{getD}
 use mathlib.Core.List.{List}
 use mathlib.Core.Path.{_≡_, refl}
+use Prim.Native.Nat.{ℕ, _-_, _*_, _≤_}
 use native.Mathlib.Omega.{arith}
+use borrow.Author.Needs.{needs}
+use lib.ListN.{getD}
 use Rattle.assignment.proofs.Writes.{length-wrote, wrote-none, wrote-row}
 use Rattle.assignment.specs.Wrote.{Wrote}
-use Rattle.circuit.specs.Layout.{wordWires}
 use Rattle.encoding.specs.Sequence.{grid}
+use Rattle.forms.specs.WordWires.{wordWires}
 use Rattle.assignment.proofs.wires.put_words.Statement.{statement}
 use Rattle.assignment.proofs.wires.put_words.Tie as tie
 
