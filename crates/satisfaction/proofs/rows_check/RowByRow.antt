@@ -1,0 +1,105 @@
+-- A row as the check judges it. The buffer holds the terms of the row's form, without the zero ones and in the letters' order;
+-- their values are those of the row, where they stand sorted. The lowest row that fails is looked for row by row.
+use mathlib.Core.Bool.{cond, false, true}
+use mathlib.Core.List.{List}
+use mathlib.Core.Path.{_≡_, _∙_, ap, ap₂, subst, sym}
+use Prim.Native.Nat.{ℕ, suc, _+_, _-_, _*_, _%_, _≤_, _<_}
+use native.Mathlib.Numerals.{add-one}
+use native.Mathlib.Omega.{arith}
+use lib.Dec.{eqb}
+use lib.ListN.{length}
+use Rattle.assignment.specs.Assignment.{entry}
+use Rattle.block.specs.declared.place.Place.{Place}
+use Rattle.circuit.proofs.shape.Shape.{letters-within}
+use Rattle.circuit.specs.Circuit.{formAt, formOf, rowAt}
+use Rattle.circuit.specs.Places.{placeAt, rowCount}
+use Rattle.circuit.specs.Wires.{wireCount}
+use Rattle.encoding.proofs.Written.{length-written}
+use Rattle.field.specs.Field.{p}
+use Rattle.forms.proofs.exact.Values.{value-nonzero, value-normal}
+use Rattle.forms.proofs.terms.FlatAll.{all-front}
+use Rattle.forms.proofs.terms.WrittenTerms.{filled-front, filled-length}
+use Rattle.forms.specs.Rows
+use Rattle.forms.specs.Rows.{Row, holds, letters, nonzero, rowOf, normalForm, value}
+use Rattle.forms.specs.Terms.{Filled, termRoom, unsorted}
+use Rattle.forms.specs.declared.form.Form.{Form}
+use Rattle.forms.specs.declared.form.Term.{Term}
+use Rattle.forms.specs.declared.terms.Counts.{Counts}
+use Rattle.satisfaction.proofs.sums.RunningSum.{Value, judged-row}
+use Rattle.satisfaction.specs.Lent.{Lent}
+use Rattle.satisfaction.specs.Lowest.{lowest}
+use Rattle.satisfaction.specs.declared.rows_check.Verdict.the-variants.{AllSatisfied, Fails}
+use Rattle.sm3.specs.Message.{blocks}
+
+-- the row of a form is satisfied where that of its letters is
+holds-letters : (e : ℕ → ℕ) (f : Form) → holds e (unsorted f) ≡ holds e (rowOf f)
+unfolding holds rowOf unsorted
+holds-letters e f =
+    let row = letters f in
+    let same : (us : List Term) → value e (nonzero us) ≡ value e (normalForm us) = λ us. value-nonzero e us ∙ sym (value-normal e us) in
+    ap₂ eqb (ap₂ (λ x y. (x * y) % p) (same (row .A)) (same (row .B))) (ap (λ v. v % p) (same (row .C)))
+
+-- Row k of a record of n bits at its place q, whose terms were filled in.
+module _ (n k : ℕ) (q : Place) (at : q ≡ placeAt (blocks n) k) (r : Counts) (before after : List ℕ)
+    (filled : Filled (unsorted (formOf n (q .block) (q .step) (q .index) (q .line))) r before after) where
+  held : Filled (unsorted (formAt n k)) r before after
+  unfolding formAt
+  held =
+      subst (λ (q : Place). Filled (unsorted (formOf n (q .block) (q .step) (q .index) (q .line))) r before after) at filled
+
+  -- no wire is past the last, and every coefficient is a residue
+  pub lent : k < rowCount n → length before ≡ termRoom → (bytes : List ℕ) → length bytes ≡ 8 * wireCount n
+      → Lent (r .a + r .b + r .c) after bytes
+  lent below room bytes size =
+      let row = unsorted (formAt n k) in
+      let fits : 2 * (r .a + r .b + r .c) ≤ length before = omega (arith, held .few) in
+      let inside =
+      all-front (λ u. (u .wire .0 < wireCount n) × (u .coefficient < p)) (Rows.terms row) (letters-within n k below) after _
+      (filled-front held fits) in
+      let count = filled-length held in
+      record {
+        room = omega (arith, length-written (held .written));
+        wires = λ t h. omega (arith, inside t (omega arith) .0);
+        coefficients = λ t h. inside t (omega arith) .1;
+      }
+
+  -- what the values of its parts tell is told of the row
+  pub judged : (bytes : List ℕ) (a b c : ℕ) → 2 * (r .a + r .b + r .c) ≤ length after → Value bytes after 0 (r .a) a
+      → Value bytes after (r .a) (r .a + r .b) b → Value bytes after (r .a + r .b) (r .a + r .b + r .c) c
+      → eqb ((a * b) % p) c ≡ holds (entry bytes) (rowAt n k)
+  unfolding rowAt
+  judged bytes a b c room va vb vc =
+      judged-row bytes after before (unsorted (formAt n k)) r held room a b c va vb vc ∙ holds-letters (entry bytes) (formAt n k)
+
+-- The lowest of the rows from k on, of n in all.
+
+module _ (a : ℕ → ℕ) (rows : ℕ → Row) (n k : ℕ) where
+  pub lowest-end : k ≡ n → lowest a rows k (n - k) ≡ AllSatisfied
+  unfolding lowest
+  lowest-end e =
+      let none-left : n - k ≡ 0 = omega arith in
+      ap (lowest a rows k) none-left
+
+  module _ (l : k < n) where
+    one-more : n - k ≡ suc (n - (k + 1))
+    one-more = omega arith
+
+    pub lowest-holds : holds a (rows k) ≡ true → lowest a rows k (n - k) ≡ lowest a rows (k + 1) (n - (k + 1))
+    unfolding lowest
+    lowest-holds h =
+        ap (lowest a rows k) one-more
+        ∙ ap (λ b. cond b (lowest a rows (suc k) (n - (k + 1))) (Fails (record { 0 = k }))) h
+        ∙ ap (λ i. lowest a rows i (n - (k + 1))) (sym (add-one k))
+
+    pub lowest-fails : holds a (rows k) ≡ false → lowest a rows k (n - k) ≡ Fails (record { 0 = k })
+    unfolding lowest
+    lowest-fails h =
+        ap (lowest a rows k) one-more
+        ∙ ap (λ b. cond b (lowest a rows (suc k) (n - (k + 1))) (Fails (record { 0 = k }))) h
+
+-- before a turn at row k, whose place is q: of the rows from `from` on and below `to`, all below row k hold
+pub record Turn (n : ℕ) (bytes : List ℕ) (from to : ℕ) (terms : List ℕ) (q : Place) (k : ℕ) : Type 0 where
+  pub below : k < to
+  pub room : length terms ≡ termRoom
+  pub at : q ≡ placeAt (blocks n) k
+  pub lower : lowest (entry bytes) (rowAt n) from (to - from) ≡ lowest (entry bytes) (rowAt n) k (to - k)

@@ -1,0 +1,4 @@
+pub mod Agrees
+pub mod Failing
+pub mod Lent
+pub mod Lowest

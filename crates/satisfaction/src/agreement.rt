@@ -1,0 +1,5 @@
+// The wires of a block computed again, and held against the entries of an assignment: what the producer writes is compared here.
+pub mod block_wires;
+pub mod expansion;
+pub mod rounds;
+pub mod wires;

@@ -1,0 +1,116 @@
+// Words read off the wires of an assignment, where those are bits.
+ghost use mathlib.Core.Bool.{true};
+ghost use mathlib.Core.Path.{_≡_};
+ghost use Prim.Native.Nat.{ℕ, _+_, _*_, _<_, _≤_};
+ghost use lib.ListN.{length};
+ghost use Rattle.satisfaction.specs.Agrees.{BitsOf, BitsOfState, BitsOfWords};
+ghost use Rattle.satisfaction.specs.declared.word_read.StateRead.the-variants.{Words};
+ghost use Rattle.satisfaction.specs.declared.word_read.WordRead.the-variants.{Word};
+ghost use Rattle.sm3.specs.declared.state.State.{State};
+use assignment::entry::raw;
+use assignment::entry::read;
+use refusal::numbers::WireNumber;
+use sm3::state::State;
+
+// What 32 entries are, as they stand. In an honest assignment they are the numbers 0 and 1.
+pub struct Standing {
+    // The number that they write if they are bits.
+    pub number: u64,
+    // All of them put together by `or`, so that it is above 1 where one of them is.
+    pub seen: u64,
+}
+
+// What 32 wires are.
+pub enum WordRead {
+    // The bits of this word.
+    Word(u32),
+    // Not all are bits.
+    NotBits,
+}
+
+// What 256 wires are.
+pub enum StateRead {
+    // The bits of these words.
+    Words(State),
+    // Not all are bits.
+    NotBits,
+}
+
+// The 32 entries from w on as they stand, at less than four instructions an entry. The callers test `seen`: a function that also
+// tests it is compiled so that the entries are stored until after the test, at six instructions an entry.
+pub fn read_standing(assignment: &[u8], w: WireNumber) -> Standing
+    requires { ⌜ 8 * (w .0 + 32) ≤ length (now assignment) ⌝ }
+    ensures { λ r. ⌜ (r .seen < 2 → BitsOf (w .0) 32 (r .number) (now (assignment .entry))) ⌝ }
+{
+    let mut number: u64 = 0;
+    let mut seen: u64 = 0;
+    for i in 0..32 {
+        let n = raw(assignment, WireNumber(w.0 + i));
+        number = std::num::wrapping_add_u64(std::num::wrapping_add_u64(number, number), n);
+        seen = seen | n;
+    }
+    Standing { number, seen }
+}
+
+// The word on the 32 wires from w on, whatever numbers the entries are.
+pub fn reduced_word(assignment: &[u8], w: WireNumber) -> WordRead
+    requires { ⌜ 8 * (w .0 + 32) ≤ length (now assignment) ⌝ }
+    ensures { λ r. ⌜ ((x : ℕ) → r ≡ Word x → BitsOf (w .0) 32 x (now (assignment .entry))) ⌝ }
+{
+    let mut x: u32 = 0;
+    for i in 0..32 {
+        let b = read(assignment, WireNumber(w.0 + i));
+        if 1 < b {
+            return WordRead::NotBits;
+        }
+        x = x * 2 + b as u32;
+    }
+    WordRead::Word(x)
+}
+
+// The word on the 32 wires from w on.
+fn read_word(assignment: &[u8], w: WireNumber) -> WordRead
+    requires { ⌜ 8 * (w .0 + 32) ≤ length (now assignment) ⌝ }
+    ensures { λ r. ⌜ ((x : ℕ) → r ≡ Word x → BitsOf (w .0) 32 x (now (assignment .entry))) ⌝ }
+{
+    let s = read_standing(assignment, w);
+    if s.seen < 2 {
+        return WordRead::Word(s.number as u32);
+    }
+    reduced_word(assignment, w)
+}
+
+// The n words on 32 wires each from w on, into the front of `words`, and whether all those wires are bits.
+pub fn read_words(assignment: &[u8], w: WireNumber, words: &mut [u32], n: usize) -> bool
+    requires { ⌜ (n ≤ length (now words)) × (8 * (w .0 + 32 * n) ≤ length (now assignment)) ⌝ }
+    ensures { λ r. ⌜ (r ≡ true → BitsOfWords (w .0) n (now (words .exit)) (now (assignment .entry))) ⌝ }
+{
+    for j in 0..n {
+        let WordRead::Word(x) = read_word(assignment, WireNumber(w.0 + 32 * j as u64)) else {
+            return false;
+        };
+        words[j] = x;
+    }
+    true
+}
+
+// The words A to H on the 256 wires from w on.
+pub fn read_state(assignment: &[u8], w: WireNumber) -> StateRead
+    requires { ⌜ 8 * (w .0 + 256) ≤ length (now assignment) ⌝ }
+    ensures { λ r. ⌜ ((s : State) → r ≡ Words s → BitsOfState (w .0) s (now (assignment .entry))) ⌝ }
+{
+    let mut x = [0u32; 8];
+    if !read_words(assignment, w, &mut x, 8) {
+        return StateRead::NotBits;
+    }
+    StateRead::Words(State {
+        a: x[0],
+        b: x[1],
+        c: x[2],
+        d: x[3],
+        e: x[4],
+        f: x[5],
+        g: x[6],
+        h: x[7],
+    })
+}
