@@ -1,0 +1,4 @@
+pub mod Acceptance
+pub mod Demand3
+pub mod DigestBits
+pub mod exact

@@ -1,0 +1,5 @@
+pub mod Check
+pub mod Demand3
+pub mod Layout
+pub mod Produce
+pub mod RowAnswer
