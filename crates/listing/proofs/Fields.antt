@@ -7,7 +7,6 @@ use native.Mathlib.Decide.{ℕ-discrete}
 use borrow.Author.Tests.{eq-eqb, ne-eqb, le-leb, leb-true, lt-ltb, ltb-true}
 use lib.Dec.{eqb, leb, ltb}
 use Rattle.listing.specs.Line.{continues, fieldFrom}
-use Rattle.listing.specs.declared.line.Field.{Field}
 use Rattle.listing.specs.declared.line.Field.the-variants.{Number, Wrong}
 
 pub no-stop : (stop v n : ℕ) → fieldFrom stop v n [] ≡ Wrong

@@ -5,10 +5,10 @@ use mathlib.Core.Path.{_≡_, refl, sym, ap, ap₂, _∙_}
 use Prim.Native.Nat.{ℕ, suc, _+_}
 use native.Mathlib.Omega.{arith}
 use lib.ListN.{length, length-append}
-use Rattle.circuit.specs.Rows.{Row, terms}
-use Rattle.circuit.specs.Terms.{flat}
-use Rattle.circuit.specs.declared.form.Term.{Term}
-use Rattle.circuit.proofs.terms.Flat.{coefficient-at, wire-at}
+use Rattle.forms.proofs.terms.Flat.{coefficient-at, wire-at}
+use Rattle.forms.specs.Rows.{Row, terms}
+use Rattle.forms.specs.Terms.{flat}
+use Rattle.forms.specs.declared.form.Term.{Term}
 use Rattle.listing.specs.Held.{heldLines}
 use Rattle.listing.specs.Rows.{partLines, termLine}
 use Rattle.listing.proofs.Lines.{lines-front, lines-none}

@@ -3,15 +3,15 @@ use mathlib.Core.Path.{_≡_, refl}
 use Prim.Native.Nat.{_≤_}
 use lib.Dec.{lit≤}
 use lib.ListN.{drop, length}
-use Rattle.circuit.specs.declared.form.Form.{Form}
-use Rattle.circuit.specs.declared.form.Form.the-variants.{Fixed, Bit, XorOfTwo, XorOfThree, Majority, Choice, Sum, Equal}
-use Rattle.circuit.specs.declared.place.Step.{Step}
-use Rattle.circuit.specs.declared.place.Step.the-variants.{Start, Message, Q, P1, W, WPrime, U, Ss2, Ff, Gg, Tt1, Tt2, P0, Result, Digest}
+use Rattle.block.specs.declared.step.Step.{Step}
+use Rattle.block.specs.declared.step.Step.the-variants.{Start, Message, Q, P1, W, WPrime, U, Ss2, Ff, Gg, Tt1, Tt2, P0, Result, Digest, Appended}
+use Rattle.forms.specs.declared.form.Form.{Form}
+use Rattle.forms.specs.declared.form.Form.the-variants.{Fixed, Bit, XorOfTwo, XorOfThree, Majority, Choice, Sum, Equal}
 use Rattle.listing.specs.Names.{allForms, allSteps, formPlace, stepPlace, through}
 use Rattle.listing.specs.Steps.{formText, stepText}
 use Rattle.listing.specs.Text.{comma, lineFeed}
 
-pub step-name : (s : Step) → (through comma (drop (stepPlace s) allSteps) ≡ stepText s) × (length (stepText s) ≤ 8)
+pub step-name : (s : Step) → (through comma (drop (stepPlace s) allSteps) ≡ stepText s) × (length (stepText s) ≤ 9)
 unfolding through
 step-name Start = (refl, lit≤ tt)
 step-name Message = (refl, lit≤ tt)
@@ -28,6 +28,7 @@ step-name Tt2 = (refl, lit≤ tt)
 step-name P0 = (refl, lit≤ tt)
 step-name Result = (refl, lit≤ tt)
 step-name Digest = (refl, lit≤ tt)
+step-name Appended = (refl, lit≤ tt)
 
 pub form-name : (f : Form) → (through lineFeed (drop (formPlace f) allForms) ≡ formText f) × (length (formText f) ≤ 13)
 unfolding through

@@ -4,10 +4,10 @@ use mathlib.Core.Bool.{cond}
 use mathlib.Core.List.{List, [], _∷_}
 use Prim.Native.Nat.{ℕ}
 use lib.Dec.{eqb}
-use Rattle.circuit.specs.declared.form.Form.{Form}
-use Rattle.circuit.specs.declared.form.Form.the-variants.{Fixed, Bit, XorOfTwo, XorOfThree, Majority, Choice, Sum, Equal}
-use Rattle.circuit.specs.declared.place.Step.{Step}
-use Rattle.circuit.specs.declared.place.Step.the-variants.{Start, Message, Q, P1, W, WPrime, U, Ss2, Ff, Gg, Tt1, Tt2, P0, Result, Digest}
+use Rattle.block.specs.declared.step.Step.{Step}
+use Rattle.block.specs.declared.step.Step.the-variants.{Start, Message, Q, P1, W, WPrime, U, Ss2, Ff, Gg, Tt1, Tt2, P0, Result, Digest, Appended}
+use Rattle.forms.specs.declared.form.Form.{Form}
+use Rattle.forms.specs.declared.form.Form.the-variants.{Fixed, Bit, XorOfTwo, XorOfThree, Majority, Choice, Sum, Equal}
 use Rattle.listing.specs.Text.{ascii}
 
 -- up to the first byte `stop`, and that
@@ -16,7 +16,7 @@ through stop [] = []
 through stop (c ∷ s) = cond (eqb c stop) (c ∷ []) (c ∷ through stop s)
 
 abbrev pub allSteps : List ℕ
-allSteps = ascii "start,message,q,p1,w,wprime,u,ss2,ff,gg,tt1,tt2,p0,result,digest,"
+allSteps = ascii "start,message,q,p1,w,wprime,u,ss2,ff,gg,tt1,tt2,p0,result,digest,appended,"
 
 abbrev pub stepPlace : Step → ℕ
 stepPlace Start = 0
@@ -34,6 +34,7 @@ stepPlace Tt2 = 44
 stepPlace P0 = 48
 stepPlace Result = 51
 stepPlace Digest = 58
+stepPlace Appended = 65
 
 abbrev pub allForms : List ℕ
 allForms = ascii "fixed\nbit\nxor of two\nxor of three\nmajority\nchoice\nsum\nequal\n"

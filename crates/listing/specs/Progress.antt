@@ -18,7 +18,6 @@ use Rattle.listing.specs.declared.progress.Listing.{Listing}
 use Rattle.listing.specs.declared.progress.Listing.the-variants as listing
 use Rattle.listing.specs.declared.progress.Progress.{Progress}
 use Rattle.listing.specs.declared.progress.Progress.the-variants.{Begun, Done, Lines}
-use Rattle.listing.specs.declared.request.Request.{Request}
 use Rattle.listing.specs.declared.request.Request.the-variants.{BadLine, Refused, Rows}
 
 -- how many bytes the lines of a row take at most

@@ -2,8 +2,8 @@
 use mathlib.Core.List.{List, [], _∷_, _++_}
 use Prim.Native.Nat.{ℕ, _*_}
 use Rattle.circuit.specs.Circuit.{rowAt}
-use Rattle.circuit.specs.Shape.{mostTerms}
-use Rattle.circuit.specs.declared.form.Term.{Term}
+use Rattle.forms.specs.Shape.{mostTerms}
+use Rattle.forms.specs.declared.form.Term.{Term}
 use Rattle.listing.specs.Decimal.{field}
 use Rattle.listing.specs.Text.{comma, lineFeed}
 

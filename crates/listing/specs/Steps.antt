@@ -1,15 +1,17 @@
 -- What `steps` prints of a row (docs/STEPS.md): `row,block,step,index,bit,form`.
 use mathlib.Core.Bool.{Bool, cond, false, true}
 use mathlib.Core.List.{List, [], _∷_, _++_}
-use Prim.Native.Nat.{ℕ, _/_}
+use Prim.Native.Nat.{ℕ, _+_, _/_}
 use lib.Dec.{ltb}
+use Rattle.block.specs.Steps.{lines}
+use Rattle.block.specs.declared.place.Place.{Place}
+use Rattle.block.specs.declared.step.Step.{Step}
+use Rattle.block.specs.declared.step.Step.the-variants.{Start, Message, Q, P1, W, WPrime, U, Ss2, Ff, Gg, Tt1, Tt2, P0, Result, Digest, Appended}
 use Rattle.circuit.specs.Circuit.{formAt}
-use Rattle.circuit.specs.Places.{lines, placeAt}
-use Rattle.circuit.specs.declared.form.Form.{Form}
-use Rattle.circuit.specs.declared.form.Form.the-variants.{Fixed, Bit, XorOfTwo, XorOfThree, Majority, Choice, Sum, Equal}
-use Rattle.circuit.specs.declared.place.Place.{Place}
-use Rattle.circuit.specs.declared.place.Step.{Step}
-use Rattle.circuit.specs.declared.place.Step.the-variants.{Start, Message, Q, P1, W, WPrime, U, Ss2, Ff, Gg, Tt1, Tt2, P0, Result, Digest}
+use Rattle.circuit.specs.Places.{placeAt}
+use Rattle.forms.specs.declared.form.Form.{Form}
+use Rattle.forms.specs.declared.form.Form.the-variants.{Fixed, Bit, XorOfTwo, XorOfThree, Majority, Choice, Sum, Equal}
+use Rattle.sm3.specs.Message.{blocks}
 use Rattle.listing.specs.Decimal.{field}
 use Rattle.listing.specs.Text.{ascii, comma}
 
@@ -30,6 +32,7 @@ inBlock Tt2 = true
 inBlock P0 = true
 inBlock Result = true
 inBlock Digest = false
+inBlock Appended = false
 
 -- the column of a step, with the comma after it, and of a form, with the line feed
 abbrev pub stepText : Step → List ℕ
@@ -48,6 +51,7 @@ stepText Tt2 = ascii "tt2,"
 stepText P0 = ascii "p0,"
 stepText Result = ascii "result,"
 stepText Digest = ascii "digest,"
+stepText Appended = ascii "appended,"
 
 abbrev pub formText : Form → List ℕ
 formText (Fixed w b) = ascii "fixed\n"
@@ -63,10 +67,10 @@ formText (Equal x y) = ascii "equal\n"
 unfoldable pub optional : Bool → ℕ → ℕ → List ℕ
 optional given x stop = cond given (field x stop) (stop ∷ [])
 
--- a word has one row or two at each of its 32 positions, so this is the position of a line. The carries of a sum stand at
--- 32 and 33; what comes behind them is its equation, which is of all positions
+-- a word of 64 rows has two at each of its positions, any other one, so this is the position of a line. The carries of a sum
+-- stand at 32 and 33; what comes behind them is its equation, which is of all positions
 abbrev pub position : Place → ℕ
-position p = p .line / (lines (p .step) (p .index) / 32)
+position p = p .line / (1 + lines (p .step) (p .index) / 64)
 
 -- `row,block,step,` of row k at place p, and `index,bit,form` of a row of form f
 unfoldable pub whereText : ℕ → Place → List ℕ
@@ -77,8 +81,8 @@ whatText p f = field (p .index) comma ++ optional (ltb (position p) 34) (positio
 
 -- the line of row k of a record of n bits
 unfoldable pub stepLine : ℕ → ℕ → List ℕ
-stepLine n k = whereText k (placeAt n k) ++ whatText (placeAt n k) (formAt n k)
+stepLine n k = whereText k (placeAt (blocks n) k) ++ whatText (placeAt (blocks n) k) (formAt n k)
 
 -- how many bytes it takes at most
 abbrev pub stepRoom : ℕ
-stepRoom = 105
+stepRoom = 106

@@ -7,7 +7,7 @@ use crate::progress::Listing;
 use crate::progress::begin;
 use crate::progress::more;
 use crate::progress::next_chunk;
-use circuit::terms::TERM_ROOM;
+use forms::terms::TERM_ROOM;
 use libc::STDERR_FILENO;
 use libc::STDIN_FILENO;
 use libc::STDOUT_FILENO;

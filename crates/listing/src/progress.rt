@@ -3,7 +3,7 @@ ghost use mathlib.Core.Path.{_≡_};
 ghost use Prim.Native.Nat.{_+_, _<_, _≤_};
 ghost use lib.ListN.{length};
 ghost use Rattle.circuit.specs.Places.{rowCount};
-ghost use Rattle.circuit.specs.Terms.{termRoom};
+ghost use Rattle.forms.specs.Terms.{termRoom};
 ghost use Rattle.listing.specs.Listing.{header, lines, refused};
 ghost use Rattle.listing.specs.Progress.{Handed, Possible, RowsExist, room, unfinished};
 ghost use Rattle.listing.specs.Put.{Put};

@@ -9,16 +9,17 @@ ghost use Rattle.listing.specs.Steps.{formText, inBlock, optional, stepL
 ghost use Rattle.sm3.specs.Message.{mostBits};
 use crate::decimal::put_field;
 use crate::text::put_through;
-use circuit::form::Form;
-use circuit::place::Place;
-use circuit::place::Step;
-use circuit::place::lines_of;
+use block::place::Place;
+use block::step::Step;
+use block::step::lines_of;
 use circuit::place::place_of;
 use circuit::step_form::form_of;
+use forms::form::Form;
 use refusal::numbers::RowNumber;
+use sm3::message::block_count;
 
 // How many bytes the line of a row takes at most.
-pub const STEP_ROOM: usize = 105;
+pub const STEP_ROOM: usize = 106;
 
 // Whether a step is of a block.
 fn in_block(step: Step) -> bool
@@ -40,6 +41,7 @@ fn in_block(step: Step) -> bool
         Step::P0 => true,
         Step::Result => true,
         Step::Digest => false,
+        Step::Appended => false,
     }
 }
 
@@ -63,6 +65,7 @@ fn step_place(step: Step) -> usize
         Step::P0 => 48,
         Step::Result => 51,
         Step::Digest => 58,
+        Step::Appended => 65,
     }
 }
 
@@ -103,10 +106,10 @@ fn form_place(form: Form) -> usize
 
 // The name of a step and a comma.
 fn put_step(out: &mut [u8], at: usize, step: Step) -> usize
-    requires { ⌜ at + 8 ≤ length (now out) ⌝ }
-    ensures { λ r. ⌜ Put (now (out .entry)) at (stepText step) (now (out .exit)) r × (r ≤ at + 8) ⌝ }
+    requires { ⌜ at + 9 ≤ length (now out) ⌝ }
+    ensures { λ r. ⌜ Put (now (out .entry)) at (stepText step) (now (out .exit)) r × (r ≤ at + 9) ⌝ }
 {
-    let names = b"start,message,q,p1,w,wprime,u,ss2,ff,gg,tt1,tt2,p0,result,digest,";
+    let names = b"start,message,q,p1,w,wprime,u,ss2,ff,gg,tt1,tt2,p0,result,digest,appended,";
     put_through(out, at, names, step_place(step), b',')
 }
 
@@ -133,8 +136,8 @@ fn put_optional(out: &mut [u8], at: usize, given: bool, x: u64, stop: u8) -> usi
 
 // `row,block,step,` of a row at the place p.
 fn put_where(out: &mut [u8], at: usize, row: RowNumber, p: Place) -> usize
-    requires { ⌜ at + 50 ≤ length (now out) ⌝ }
-    ensures { λ r. ⌜ Put (now (out .entry)) at (whereText (row .0) p) (now (out .exit)) r × (r ≤ at + 50) ⌝ }
+    requires { ⌜ at + 51 ≤ length (now out) ⌝ }
+    ensures { λ r. ⌜ Put (now (out .entry)) at (whereText (row .0) p) (now (out .exit)) r × (r ≤ at + 51) ⌝ }
 {
     let step = p.step;
     let a = put_field(out, at, row.0, b',');
@@ -148,7 +151,7 @@ fn put_what(out: &mut [u8], at: usize, p: Place, form: Form) -> usize
     ensures { λ r. ⌜ Put (now (out .entry)) at (whatText p form) (now (out .exit)) r × (r ≤ at + 55) ⌝ }
 {
     let step = p.step;
-    let position = p.line / (lines_of(step, p.index) / 32);
+    let position = p.line / (1 + lines_of(step, p.index) / 64);
     let a = put_field(out, at, p.index, b',');
     let b = put_optional(out, a, position < 34, position, b',');
     put_form(out, b, form)
@@ -159,7 +162,7 @@ pub fn put_step_line(out: &mut [u8], at: usize, bits: u64, row: RowNumber) -> us
     requires { ⌜ (at + stepRoom ≤ length (now out)) × (bits ≤ mostBits) × (row .0 < rowCount bits) ⌝ }
     ensures { λ r. ⌜ Put (now (out .entry)) at (stepLine bits (row .0)) (now (out .exit)) r × (r ≤ at + stepRoom) ⌝ }
 {
-    let p = place_of(bits, row);
+    let p = place_of(block_count(bits), row);
     let form = form_of(bits, p);
     let middle = put_where(out, at, row, p);
     put_what(out, middle, p, form)

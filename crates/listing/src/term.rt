@@ -2,7 +2,7 @@
 ghost use Prim.Native.Nat.{_+_, _*_, _<_, _≤_};
 ghost use lib.ListN.{length};
 ghost use Rattle.circuit.specs.Places.{rowCount};
-ghost use Rattle.circuit.specs.Terms.{termRoom};
+ghost use Rattle.forms.specs.Terms.{termRoom};
 ghost use Rattle.listing.specs.Held.{heldLines};
 ghost use Rattle.listing.specs.Put.{Put};
 ghost use Rattle.listing.specs.Rows.{lineRoom, rowLines, rowRoom, termLine};

@@ -1,6 +1,6 @@
 -- The definition reads on from any state, so the loop keeps that reading on from where it stands gives the answer; each
 -- byte then does what the definition says of it.
-use mathlib.Core.Bool.{false, true}
+use mathlib.Core.Bool.{true}
 use mathlib.Core.List.{List, _∷_}
 use mathlib.Core.Path.{_≡_, sym, ap, _∙_}
 use Prim.Native.Nat.{ℕ, _+_, _-_, _*_, _≤_, _<_}

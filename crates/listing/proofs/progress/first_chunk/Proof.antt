@@ -4,7 +4,6 @@ use mathlib.Core.Path.{refl}
 use native.Mathlib.Omega.{arith}
 use borrow.Author.Needs.{needs}
 use lib.ListN.{length}
-use Rattle.listing.specs.declared.progress.Progress.{Progress}
 use Rattle.listing.specs.declared.progress.Progress.the-variants.{Begun}
 use Rattle.listing.proofs.Chunks.{handed, refusing, room-bounds}
 use Rattle.listing.proofs.progress.first_chunk.Statement.{statement}

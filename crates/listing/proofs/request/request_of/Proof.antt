@@ -52,12 +52,12 @@ add-if2 c =
 returns-3 : tie.Need-returns-3
 returns-3 c =
     let past = c .before .before in
-    sym (past-count (Line (past .before)) _ _ _ (numbers (past .before)) (past .if1 .left) (rw (c .before .row-count .ensures) at (c .if2 .taken)))
+    sym (past-count (Line (past .before)) _ _ _ (numbers (past .before)) (past .if1 .left) (rw (c .before .row-count .ensures .0) at (c .if2 .taken)))
 
 returns-4 : tie.Need-returns-4
 returns-4 c =
     let past = c .before .before in
-    sym (in-range (Line (past .before)) _ _ _ (numbers (past .before)) (past .if1 .left) (rw (c .before .row-count .ensures) at (c .if2 .left)))
+    sym (in-range (Line (past .before)) _ _ _ (numbers (past .before)) (past .if1 .left) (rw (c .before .row-count .ensures .0) at (c .if2 .left)))
 
 pub request-of-spec : {M : Type 1} → statement M
 request-of-spec =

@@ -4,7 +4,7 @@ use Prim.Native.Nat.{ℕ}
 use native.Mathlib.Omega.{arith}
 use borrow.Author.Needs.{needs}
 use lib.ListN.{drop}
-use Rattle.circuit.specs.declared.form.Form.{Form}
+use Rattle.forms.specs.declared.form.Form.{Form}
 use Rattle.listing.specs.Names.{allForms, formPlace, through}
 use Rattle.listing.specs.Steps.{formText}
 use Rattle.listing.specs.Text.{lineFeed}

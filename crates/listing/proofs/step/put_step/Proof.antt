@@ -4,7 +4,7 @@ use Prim.Native.Nat.{ℕ}
 use native.Mathlib.Omega.{arith}
 use borrow.Author.Needs.{needs}
 use lib.ListN.{drop}
-use Rattle.circuit.specs.declared.place.Step.{Step}
+use Rattle.block.specs.declared.step.Step.{Step}
 use Rattle.listing.specs.Names.{allSteps, stepPlace, through}
 use Rattle.listing.specs.Steps.{stepText}
 use Rattle.listing.specs.Text.{comma}

@@ -1,22 +1,37 @@
 -- The place and the form are those of the row.
-use mathlib.Core.Path.{subst, sym}
+use mathlib.Core.Path.{_≡_, subst, sym, ap, _∙_}
+use Prim.Native.Nat.{ℕ}
 use native.Mathlib.Omega.{arith}
 use borrow.Author.Needs.{needs}
+use Rattle.circuit.proofs.place.PlaceRange.{in-circuit}
 use Rattle.circuit.specs.Circuit.{formAt}
-use Rattle.circuit.proofs.place.PlaceRange.{in-record}
-use Rattle.circuit.specs.Ranges.{InRecord}
+use Rattle.circuit.specs.Places.{placeAt}
+use Rattle.circuit.specs.Ranges.{InCircuit}
+use Rattle.sm3.specs.Message.{blocks}
 use Rattle.listing.specs.Steps.{stepLine}
 use Rattle.listing.proofs.Put.{put-then}
 use Rattle.listing.proofs.step.put_step_line.Statement.{statement}
 use Rattle.listing.proofs.step.put_step_line.Tie as tie
 
+block-count-requires : tie.Need-block-count-requires
+block-count-requires c κs = search needs
+
 place-of-requires : tie.Need-place-of-requires
 place-of-requires c κs = search needs
 
+-- the blocks are counted from the bits
+at-place :
+    (c : tie.After-place-of)
+    → c .place-of .result
+    ≡ placeAt (blocks (c .before .before .before .args .bits)) (c .before .before .before .args .row .0)
+at-place c =
+    c .place-of .ensures
+    ∙ ap (λ (b : ℕ). placeAt b (c .before .before .before .args .row .0)) (c .before .block-count .ensures .0)
+
 form-of-requires : tie.Need-form-of-requires
 form-of-requires c κs =
-    let start = c .before .before in
-    (start .pre .1, subst (InRecord _) (sym (c .place-of .ensures)) (in-record _ _ (start .pre .2)))
+    let start = c .before .before .before in
+    (start .pre .1, subst (InCircuit _) (sym (at-place c)) (in-circuit _ _ (start .pre .2)))
 
 put-where-requires : tie.Need-put-where-requires
 put-where-requires c κs = search needs
@@ -34,8 +49,8 @@ returns c =
     let first = second .before .before .before .before in
     let form = first .before .before in
     let place = form .before in (
-      put-then (rw (place .place-of .ensures) at (first .put-where .ensures .0))
-          (rw (form .form-of .ensures .0, place .place-of .ensures) at (second .put-what .ensures .0)),
+      put-then (rw (at-place place) at (first .put-where .ensures .0))
+          (rw (form .form-of .ensures .0, at-place place) at (second .put-what .ensures .0)),
       omega (arith, second .put-what .ensures .1, first .put-where .ensures .1),
     )
 
@@ -43,6 +58,7 @@ pub put-step-line-spec : {M : Type 1} → statement M
 put-step-line-spec =
     tie.close
     (tie.spec
+    block-count-requires
     place-of-requires
     form-of-requires
     put-where-requires

@@ -9,6 +9,9 @@ use Rattle.listing.proofs.step.put_what.Tie as tie
 lines-of-requires : tie.Need-lines-of-requires
 lines-of-requires c κs = search needs
 
+add-position : tie.Need-add-position
+add-position c = search needs
+
 div-position : tie.Need-div-position
 div-position c = search needs
 
@@ -42,6 +45,7 @@ put-what-spec =
     tie.close
     (tie.spec
     lines-of-requires
+    add-position
     div-position
     put-field-requires
     put-optional-requires

@@ -4,8 +4,8 @@ use Prim.Native.Nat.{_+_}
 use native.Mathlib.Omega.{arith}
 use borrow.Author.Needs.{needs}
 use lib.ListN.{length}
-use Rattle.circuit.proofs.terms.WrittenTerms.{filled-front}
 use Rattle.circuit.specs.Circuit.{rowAt}
+use Rattle.forms.proofs.terms.WrittenTerms.{filled-front}
 use Rattle.listing.specs.Rows.{rowLines}
 use Rattle.listing.proofs.HeldLines.{held-A, held-B, held-C}
 use Rattle.listing.proofs.Put.{put-then}
