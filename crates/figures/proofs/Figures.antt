@@ -2,10 +2,10 @@
 use mathlib.Core.List.{map}
 use mathlib.Core.Path.{_≡_, refl}
 use Rattle.assignment.specs.Assignment.{entry}
-use Rattle.assignment.specs.Check.{checkAnswer}
-use Rattle.circuit.specs.Layout.{wireCount}
+use Rattle.record.specs.Check.{checkAnswer}
+use Rattle.circuit.specs.Wires.{wireCount}
 use Rattle.circuit.specs.Places.{rowCount}
-use Rattle.circuit.specs.RowAnswer.{rowAnswer}
+use Rattle.record.specs.RowAnswer.{rowAnswer}
 use Rattle.encoding.specs.Bytes.{fromLeastFirst, leastFirst}
 use Rattle.encoding.specs.Sequence.{tab}
 use Rattle.figures.specs.Figures.{Figure, table}

@@ -3,11 +3,11 @@
 use mathlib.Core.List.{List, [], _∷_}
 use Prim.Native.Nat.{ℕ, _-_, _*_, _^_}
 use Rattle.assignment.specs.Assignment.{entry}
-use Rattle.assignment.specs.Check.{checkAnswer}
-use Rattle.assignment.specs.Produce.{produceAnswer}
-use Rattle.circuit.specs.Layout.{wireCount}
+use Rattle.record.specs.Check.{checkAnswer}
+use Rattle.record.specs.Produce.{produceAnswer}
+use Rattle.circuit.specs.Wires.{wireCount}
 use Rattle.circuit.specs.Places.{rowCount}
-use Rattle.circuit.specs.RowAnswer.{rowAnswer, rowBytes, rowNumber}
+use Rattle.record.specs.RowAnswer.{rowAnswer, rowBytes, rowNumber}
 use Rattle.encoding.specs.Bytes.{leastFirst}
 use Rattle.field.specs.Field.{p}
 use Rattle.listing.specs.Request.{requestNumber, requestOf}

@@ -9,14 +9,14 @@
 // each a wire and a coefficient. Row 256 fixes wire 513 to 1 at L 0; at L 1 it is a bit row, with p - 1 on wire 0 in B; row
 // 32,576 at L 0 has wires 1 (1) and 22,785 (p - 1) in A; row 32,832 at L 0 is refusal 3.
 ghost use Prim.Native.Nat.{_+_, _≤_};
-ghost use Rattle.circuit.specs.RowAnswer.{rowBytes};
+ghost use Rattle.record.specs.RowAnswer.{rowBytes};
 ghost use Rattle.sm3.specs.Message.{longest};
-use circuit::row::ROW_BYTES;
-use circuit::row::RowAnswer;
-use circuit::row::row;
 use encoding::read::eight_bytes;
 use encoding::read::four_bytes;
 use libc::STDOUT_FILENO;
+use record::row::ROW_BYTES;
+use record::row::RowAnswer;
+use record::row::row;
 use refusal::numbers::RowNumber;
 use refusal::outcome::number_of;
 use sm3::message::LONGEST;

@@ -8,15 +8,15 @@ use native.Mathlib.Omega.{arith}
 use borrow.Author.Tests.{leb-false}
 use lib.Dec.{leb, lit<, ltb}
 use lib.ListN.{length-append}
-use Rattle.assignment.proofs.Acceptance.{in-range, unsatisfied-lowest}
-use Rattle.assignment.specs.Check.{checkAnswer}
+use Rattle.record.proofs.Acceptance.{in-range, unsatisfied-lowest}
+use Rattle.record.specs.Check.{checkAnswer}
 use Rattle.circuit.proofs.shape.Shape.{shape}
 use Rattle.circuit.specs.Circuit.{rowAt}
 use Rattle.circuit.specs.Places.{rowCount}
-use Rattle.circuit.specs.RowAnswer.{counted, rowAnswer, rowBytes}
-use Rattle.circuit.specs.Rows.{terms}
-use Rattle.circuit.specs.declared.row.RowAnswer.{RowAnswer}
-use Rattle.circuit.specs.declared.row.RowAnswer.the-variants.{Refused as RowRefused}
+use Rattle.record.specs.RowAnswer.{counted, rowAnswer, rowBytes}
+use Rattle.forms.specs.Rows.{terms}
+use Rattle.record.specs.declared.row.RowAnswer.{RowAnswer}
+use Rattle.record.specs.declared.row.RowAnswer.the-variants.{Refused as RowRefused}
 use Rattle.refusal.specs.Packing.{above}
 use Rattle.refusal.specs.Refusals.{outcomeValues}
 use Rattle.refusal.specs.declared.outcome.Outcome.{Outcome}

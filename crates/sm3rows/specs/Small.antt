@@ -1,9 +1,9 @@
 -- A device of the contract of the private `pack_row`, on which no public contract rests: what `row` keeps to, so that its values have
 -- room in one number.
 use Prim.Native.Nat.{_<_, _≤_, _^_}
-use Rattle.circuit.specs.Shape.{mostTerms}
-use Rattle.circuit.specs.declared.row.RowAnswer.{RowAnswer}
-use Rattle.circuit.specs.declared.row.RowAnswer.the-variants.{Given, Refused}
+use Rattle.forms.specs.Shape.{mostTerms}
+use Rattle.record.specs.declared.row.RowAnswer.{RowAnswer}
+use Rattle.record.specs.declared.row.RowAnswer.the-variants.{Given, Refused}
 use Rattle.refusal.specs.Packing.{above}
 use Rattle.refusal.specs.Refusals.{refusalValues}
 

@@ -2,14 +2,14 @@
 // the refusal's number and which has the values above it (docs/HOST.md).
 ghost use mathlib.Core.Path.{_≡_};
 ghost use lib.ListN.{length};
-ghost use Rattle.assignment.specs.Check.{checkAnswer};
-ghost use Rattle.assignment.specs.Produce.{produceAnswer, produceLeft};
-ghost use Rattle.circuit.specs.RowAnswer.{rowAnswer, rowLeft};
+ghost use Rattle.record.specs.Check.{checkAnswer};
+ghost use Rattle.record.specs.Produce.{produceAnswer, produceLeft};
+ghost use Rattle.record.specs.RowAnswer.{rowAnswer, rowLeft};
 ghost use Rattle.refusal.specs.Packing.{packedOutcome};
 ghost use Rattle.sm3.specs.Digest.{digestAnswer, digestLeft};
 ghost use Rattle.sm3rows.specs.Packing.{packedRow};
 ghost use Rattle.sm3rows.specs.Small.{SmallRow};
-use circuit::row::RowAnswer;
+use record::row::RowAnswer;
 use refusal::numbers::RowNumber;
 use refusal::packing::pack_outcome;
 use refusal::packing::pack_refusal;
@@ -40,7 +40,7 @@ pub extern "C" fn sm3rows_row(size: u64, row: u64, out: &mut [u8]) -> u64
     ensures { λ r. ⌜ r ≡ packedRow (rowAnswer size row (length (now (out .entry)))) ⌝ }
     ensures { λ r. ⌜ now (out .exit) ≡ rowLeft (rowAnswer size row (length (now (out .entry)))) size row (now (out .entry)) ⌝ }
 {
-    pack_row(circuit::row::row(size, RowNumber(row), out))
+    pack_row(record::row::row(size, RowNumber(row), out))
 }
 
 // The whole assignment of a record, into the front of `out`.
@@ -49,7 +49,7 @@ pub extern "C" fn sm3rows_produce(bytes: &[u8], out: &mut [u8]) -> u64
     ensures { λ r. ⌜ r ≡ packedOutcome (produceAnswer (length (now (bytes .entry))) (length (now (out .entry)))) ⌝ }
     ensures { λ r. ⌜ now (out .exit) ≡ produceLeft (produceAnswer (length (now (bytes .entry))) (length (now (out .entry)))) (now (bytes .entry)) (now (out .entry)) ⌝ }
 {
-    pack_outcome(assignment::produce::produce(bytes, out))
+    pack_outcome(record::produce::produce(bytes, out))
 }
 
 // The check of an assignment for a record of `size` bytes against a digest.
@@ -57,5 +57,5 @@ pub extern "C" fn sm3rows_produce(bytes: &[u8], out: &mut [u8]) -> u64
 pub extern "C" fn sm3rows_check(size: u64, digest: &[u8], assignment: &[u8]) -> u64
     ensures { λ r. ⌜ r ≡ packedOutcome (checkAnswer size (now (digest .entry)) (now (assignment .entry))) ⌝ }
 {
-    pack_outcome(assignment::check::check(size, digest, assignment))
+    pack_outcome(record::check::check(size, digest, assignment))
 }

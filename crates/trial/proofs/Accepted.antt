@@ -6,10 +6,10 @@ use Prim.Native.Nat.{ℕ, _*_, _≤_}
 use native.Mathlib.Omega.{arith}
 use borrow.Author.Tests.{le-ltb}
 use lib.ListN.{drop-of-length-le, length, take}
-use Rattle.assignment.proofs.Demand3.{demand3}
-use Rattle.assignment.specs.Check.{checkAnswer}
-use Rattle.assignment.specs.Produce.{produceAnswer, produceLeft}
-use Rattle.circuit.specs.Layout.{wireCount}
+use Rattle.record.proofs.Demand3.{demand3}
+use Rattle.record.specs.Check.{checkAnswer}
+use Rattle.record.specs.Produce.{produceAnswer, produceLeft}
+use Rattle.circuit.specs.Wires.{wireCount}
 use Rattle.encoding.specs.Bytes.{Bytes}
 use Rattle.refusal.specs.declared.outcome.Outcome.{Outcome}
 use Rattle.refusal.specs.declared.outcome.Outcome.the-variants.{Done}

@@ -22,7 +22,7 @@
 ghost use mathlib.Core.Path.{_≡_};
 ghost use Prim.Native.Nat.{_*_, _≤_};
 ghost use lib.ListN.{length};
-ghost use Rattle.circuit.specs.Layout.{wireCount};
+ghost use Rattle.circuit.specs.Wires.{wireCount};
 ghost use Rattle.refusal.specs.declared.outcome.Outcome.the-variants.{Done};
 ghost use Rattle.sm3.specs.Message.{longest};
 
@@ -31,9 +31,9 @@ mod line;
 
 use crate::changes::change_all;
 use crate::line::show;
-use assignment::check::check;
-use assignment::produce::produce;
 use circuit::wire::wire_count;
+use record::check::check;
+use record::produce::produce;
 use refusal::outcome::Outcome;
 use sm3::digest::digest;
 use sm3::message::LONGEST;

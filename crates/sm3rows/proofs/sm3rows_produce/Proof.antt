@@ -5,7 +5,7 @@ use Prim.Native.Nat.{_*_}
 use lib.Dec.{ltb}
 use lib.ListN.{length}
 use Rattle.sm3.specs.Message.{longest}
-use Rattle.circuit.specs.Layout.{wireCount}
+use Rattle.circuit.specs.Wires.{wireCount}
 use Rattle.refusal.specs.Packing.{packedOutcome}
 use Rattle.sm3rows.proofs.Small.{Small, two-tests}
 use Rattle.sm3rows.proofs.sm3rows_produce.Statement.{statement}

@@ -4,7 +4,7 @@ use Prim.Native.Nat.{_*_, _≤_}
 use native.Mathlib.Omega.{arith}
 use lib.ListN.{length}
 use lib.Seq.{length-take-le}
-use Rattle.circuit.specs.Layout.{wireCount}
+use Rattle.circuit.specs.Wires.{wireCount}
 use Rattle.circuit.specs.Wires.{firstBlock}
 use Rattle.sm3.specs.Message.{blocks}
 use borrow.Author.Needs.{needs}
@@ -35,20 +35,22 @@ mul-end : tie.Need-mul-end
 mul-end c = search needs
 
 slice-relend-prefix-change-all : tie.Need-slice-relend-prefix-change-all
-slice-relend-prefix-change-all c = search needs
+unfolding wireCount blocks
+slice-relend-prefix-change-all c = omega (arith, c .wire-count .ensures .0, c .before .before .before .before .before .before .before .before .before .before .before .pre .0)
 
 slice-aggregate-change-all : tie.Need-slice-aggregate-change-all
-slice-aggregate-change-all c = sym (length-take-le _ _ (omega arith))
+unfolding wireCount blocks
+slice-aggregate-change-all c = sym (length-take-le _ _ (omega (arith, c .before .wire-count .ensures .0, c .before .before .before .before .before .before .before .before .before .before .before .before .pre .0)))
 
 change-all-requires : tie.Need-change-all-requires
-unfolding wireCount
+unfolding wireCount blocks
 change-all-requires c κs =
     let start = c .before .before .before .before .before .before .before .before .before .before .before .before in
     let wires = c .before .wire-count .ensures .0 in (
       start .pre .0,
       search needs,
-      of-front (λ n. n ≡ 8 * wireCount (8 * length (start .args .bytes .now))) _ _ (ap (λ n. 8 * n) wires) (omega arith),
-      of-front (λ n. 8 * firstBlock ≤ n) (8 * c .before .wire-count .result) _ (omega (arith, wires)) (omega arith),
+      of-front (λ n. n ≡ 8 * wireCount (8 * length (start .args .bytes .now))) _ _ (ap (λ n. 8 * n) wires) (omega (arith, wires, start .pre .0)),
+      of-front (λ n. 8 * firstBlock ≤ n) (8 * c .before .wire-count .result) _ (omega (arith, wires)) (omega (arith, wires, start .pre .0)),
     )
 
 same-length : tie.Need-same-length

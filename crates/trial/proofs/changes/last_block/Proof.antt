@@ -1,6 +1,6 @@
 -- The wires of a record end with its last block.
 use native.Mathlib.Omega.{arith}
-use Rattle.circuit.specs.Layout.{wireCount}
+use Rattle.circuit.specs.Wires.{wireCount}
 use borrow.Author.Needs.{needs}
 use Rattle.trial.proofs.changes.last_block.Statement.{statement}
 use Rattle.trial.proofs.changes.last_block.Tie as tie
