@@ -1,5 +1,5 @@
 //! Compiles baseline.c with the flags below, and hands them to the program,
-//! which prints them with its figures.
+//! which prints them with its figures. Links libgcrypt.
 
 use std::env;
 use std::path::Path;
@@ -26,6 +26,7 @@ fn main() {
     run(Command::new("ar").arg("rcs").arg(&archive).arg(&object));
     println!("cargo:rustc-link-search=native={folder}");
     println!("cargo:rustc-link-lib=static=baseline");
+    println!("cargo:rustc-link-lib=dylib=gcrypt");
     println!(
         "cargo:rustc-env=BASELINE_BUILD={COMPILER} {}",
         FLAGS.join(" ")

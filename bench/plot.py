@@ -7,8 +7,8 @@ import sys
 from html import escape
 
 WIDTH, HEIGHT, LEFT, TOP, GAP = 300, 240, 70, 50, 90
-COLOURS = {"sm3rows": "#1b6ca8", "openssl": "#b5651d", "openssl-one-call": "#d9a86c", "c-loop": "#b5651d",
-           "c-sparse": "#b5651d"}
+COLOURS = {"sm3rows": "#1b6ca8", "openssl": "#b5651d", "openssl-one-call": "#d9a86c", "libgcrypt": "#5b8c5a",
+           "c-loop": "#b5651d", "c-sparse": "#b5651d"}
 
 
 def text(x, y, words, anchor="middle", size=12, extra=""):

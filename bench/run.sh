@@ -1,6 +1,7 @@
 #!/bin/sh
-# Times libsm3rows.a beside OpenSSL, plain C and the judge, in one run. Prints a table; writes bench.csv and bench.svg
-# into target/bench, or into the folder that BENCH_OUT names. Arguments: [--runs N].
+# Times libsm3rows.a beside OpenSSL, libgcrypt, plain C and the judge, in one run. Prints a table; writes bench.csv and
+# bench.svg into target/bench, or into the folder that BENCH_OUT names. Arguments: [--runs N] [--without FEATURE]; the
+# feature, as intel-bmi2, is one of the processor's that libgcrypt leaves aside.
 #
 # SM3ROWS_LIB names the archive; without it, it is the one that `rt staticlib sm3rows` writes. ROWS_PROGRAM names the
 # program `rows`; without it, it is target/bin/rows, and where that is missing the program is left out.
@@ -14,8 +15,8 @@ export CARGO_TARGET_DIR="$root/target/judge"
 out=${BENCH_OUT:-$root/target/bench}
 mkdir -p "$out"
 
-{ echo 'int main(void) { return 0; }' | gcc -x c - -lcrypto -o /dev/null && command -v python3; } > /dev/null 2>&1 ||
-    { apt-get update && apt-get install -y gcc libssl-dev python3; } > /dev/null
+{ echo 'int main(void) { return 0; }' | gcc -x c - -lcrypto -lgcrypt -o /dev/null && command -v python3; } > /dev/null 2>&1 ||
+    { apt-get update && apt-get install -y gcc libssl-dev libgcrypt20-dev python3; } > /dev/null
 
 cargo build --quiet --release -j1 --manifest-path "$root/bench/Cargo.toml"
 program=${ROWS_PROGRAM:-$root/target/bin/rows}

@@ -1,7 +1,9 @@
-//! The speed of libsm3rows.a beside OpenSSL, plain C and the judge, in one
-//! run: `bench [--runs N] [--csv FILE] [--program FILE]`.
+//! The speed of libsm3rows.a beside OpenSSL, libgcrypt, plain C and the judge,
+//! in one run:
+//! `bench [--runs N] [--csv FILE] [--program FILE] [--without FEATURE]`.
 
 mod baseline;
+mod libgcrypt;
 mod measures;
 mod timing;
 
@@ -16,10 +18,15 @@ use timing::Figure;
 /// Records of 1, 2, 4, 8 and 16 blocks, the longest of each.
 const GROWTH: [u64; 5] = [55, 119, 247, 503, 1015];
 
+/// Those of 1, 2 and 16 blocks, at which the check is timed on other claims too.
+const OTHER_CLAIMS: [u64; 3] = [55, 119, 1015];
+
 struct Options {
     runs: u32,
     csv: Option<String>,
     program: Option<String>,
+    /// A feature of the processor that libgcrypt is to leave aside.
+    without: Option<String>,
 }
 
 fn options(arguments: &[String]) -> Option<Options> {
@@ -27,6 +34,7 @@ fn options(arguments: &[String]) -> Option<Options> {
         runs: 15,
         csv: None,
         program: None,
+        without: None,
     };
     let mut words = arguments.iter();
     while let Some(word) = words.next() {
@@ -35,23 +43,28 @@ fn options(arguments: &[String]) -> Option<Options> {
             "--runs" => options.runs = value.parse().ok()?,
             "--csv" => options.csv = Some(value.clone()),
             "--program" => options.program = Some(value.clone()),
+            "--without" => options.without = Some(value.clone()),
             _ => return None,
         }
     }
     Some(options)
 }
 
-/// The target of a ratio, where the side has one.
-fn target(side: &str) -> Option<f64> {
-    match side {
-        "openssl" | "c-sparse" => Some(1.0),
-        "c-loop" => Some(1.5),
+/// The target of a ratio, where the measure has one beside that side.
+fn target(measure: &str, side: &str) -> Option<f64> {
+    match (measure, side) {
+        ("digest", "openssl") => Some(1.0),
+        ("produce", "c-loop") => Some(1.5),
+        ("check", "c-sparse") => Some(0.25),
         _ => None,
     }
 }
 
 fn print_heading() {
-    println!("measure   bytes blocks   sm3rows us     other us  other side        ratio  target");
+    println!(
+        "{:13} {:>6} {:>6} {:>12} {:>12}  {:16} {:>6}  target",
+        "measure", "bytes", "blocks", "sm3rows us", "other us", "other side", "ratio"
+    );
 }
 
 /// One measure at one length: a line for every side beside ours.
@@ -60,13 +73,13 @@ fn print_measure(figures: &[Figure]) {
     let us = |figure: &Figure| figure.nanoseconds / 1000.0;
     for other in others {
         let ratio = us(ours) / us(other);
-        let target = match target(other.side) {
-            Some(most) if ratio <= most => format!("{most:.1} met"),
-            Some(most) => format!("{most:.1} MISSED"),
+        let target = match target(ours.measure, other.side) {
+            Some(most) if ratio <= most => format!("{most:?} met"),
+            Some(most) => format!("{most:?} MISSED"),
             None => String::from("-"),
         };
         println!(
-            "{:8} {:>6} {:>6} {:>12.2} {:>12.2}  {:16} {ratio:>6.2}  {target}",
+            "{:13} {:>6} {:>6} {:>12.2} {:>12.2}  {:16} {ratio:>6.2}  {target}",
             ours.measure,
             ours.bytes,
             ours.blocks,
@@ -92,14 +105,14 @@ fn deviation(points: &[(f64, f64)]) -> f64 {
     off.fold(0.0, f64::max)
 }
 
-fn print_growth(figures: &[Figure], measure: &str) {
+fn print_growth(figures: &[Figure], measure: &str, name: &str) {
     let ours = figures
         .iter()
         .filter(|figure| figure.measure == measure && figure.side == OURS);
     let points: Vec<(f64, f64)> = ours
         .map(|figure| (figure.blocks as f64, figure.nanoseconds))
         .collect();
-    print!("{measure:8} us a block over 1, 2, 4, 8, 16 blocks:");
+    print!("{name}, us a block over 1, 2, 4, 8, 16 blocks:");
     for (blocks, nanoseconds) in &points {
         print!(" {:.2}", nanoseconds / blocks / 1000.0);
     }
@@ -141,38 +154,55 @@ fn measure_all(runs: u32) -> Vec<Figure> {
     for length in [0, 63, 1015] {
         take(measures::digest(length, runs));
     }
-    for length in GROWTH {
-        take(measures::produce(length, runs));
+    for figures in measures::produce(&GROWTH, runs) {
+        take(figures);
     }
     for length in GROWTH {
         take(measures::check(length, runs));
     }
+    for length in OTHER_CLAIMS {
+        take(measures::check_shifted(length, runs));
+    }
+    for length in OTHER_CLAIMS {
+        take(measures::check_refused(length, runs));
+    }
+    all.extend(measures::growth(&GROWTH, runs));
     all
 }
 
 fn main() -> ExitCode {
     let arguments: Vec<String> = std::env::args().skip(1).collect();
     let Some(options) = options(&arguments) else {
-        eprintln!("usage: bench [--runs N] [--csv FILE] [--program FILE]");
+        eprintln!("usage: bench [--runs N] [--csv FILE] [--program FILE] [--without FEATURE]");
         return ExitCode::from(2);
     };
+    if !libgcrypt::start(options.without.as_deref()) {
+        eprintln!("libgcrypt knows no such feature");
+        return ExitCode::from(2);
+    }
     println!(
         "best of {} runs, processor time; {}",
         options.runs,
         processor()
     );
     println!(
-        "C side: {}; {}",
+        "C side: {}; {}; {}",
         env!("BASELINE_BUILD"),
-        host::openssl::version()
+        host::openssl::version(),
+        libgcrypt::version()
     );
     let figures = measure_all(options.runs);
-    print_growth(&figures, "produce");
-    print_growth(&figures, "check");
+    print_growth(&figures, "produce", "produce");
+    print_growth(
+        &figures,
+        measures::SAME_MEMORY,
+        "produce, in the same memory",
+    );
+    print_growth(&figures, "check", "check");
     if let Some(program) = options.program {
         match measures::lines_a_second(Path::new(&program)) {
-            Ok(lines) => println!("rows     {lines:.0} lines a second"),
-            Err(error) => println!("rows     {error}"),
+            Ok(lines) => println!("rows          {lines:.0} lines a second"),
+            Err(error) => println!("rows          {error}"),
         }
     }
     if let Some(file) = options.csv {

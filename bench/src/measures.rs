@@ -1,5 +1,6 @@
 //! What is measured. Before a time is taken, all sides must agree.
 
+use std::cell::RefCell;
 use std::io::Write;
 use std::path::Path;
 use std::process::{Command, Stdio};
@@ -8,13 +9,20 @@ use std::time::Instant;
 use host::openssl::{self, Context};
 use host::Empty;
 use judge::check::check_with;
+use judge::field::P;
+use judge::forms::RowTable;
 use judge::length::Length;
+use judge::refusal::Refusal;
 use judge::{layout, rows, sm3};
 
 use crate::baseline::{self, Matrix};
-use crate::timing::{best, side, Figure};
+use crate::libgcrypt;
+use crate::timing::{best, side, Figure, Side};
 
 pub const OURS: &str = "sm3rows";
+
+/// The measure that `growth` takes.
+pub const SAME_MEMORY: &str = "produce-same-memory";
 
 fn record(length: u64) -> Vec<u8> {
     (0..length).map(|k| (k * k + 7 * k + 3) as u8).collect()
@@ -32,24 +40,27 @@ fn figures(measure: &'static str, bytes: u64, times: Vec<(&'static str, f64)>) -
     times.into_iter().map(figure).collect()
 }
 
-/// The digest beside OpenSSL's, with a context kept and by one call.
+/// The digest beside OpenSSL's, with a context kept and by one call, and
+/// libgcrypt's.
 pub fn digest(length: u64, runs: u32) -> Vec<Figure> {
     let record = record(length);
-    let (mut ours, mut theirs) = ([0; 32], [0; 32]);
+    let (mut ours, mut theirs, mut third) = ([0; 32], [0; 32], [0; 32]);
     let mut context = Context::new();
     assert_eq!(host::digest(Empty::Null, &record, &mut ours), 0);
     context.digest(&record, &mut theirs);
-    assert_eq!((ours, theirs), (sm3::hash(&record), sm3::hash(&record)));
+    libgcrypt::digest(&record, &mut third);
+    assert_eq!([ours, theirs, third], [sm3::hash(&record); 3]);
     let sides = vec![
         side(OURS, || host::digest(Empty::Null, &record, &mut ours)),
         side("openssl", || context.digest(&record, &mut theirs)),
         side("openssl-one-call", || openssl::one_call(&record)),
+        side("libgcrypt", || libgcrypt::digest(&record, &mut third)),
     ];
     figures("digest", length, best(sides, runs))
 }
 
-/// The producer beside the plain C loop.
-pub fn produce(length: u64, runs: u32) -> Vec<Figure> {
+/// The two producers at one length, each with a buffer of its own.
+fn producers(length: u64) -> [Side<'static>; 2] {
     let record = record(length);
     let right = layout::assignment(&record);
     let mut ours = vec![0u8; right.len()];
@@ -62,38 +73,125 @@ pub fn produce(length: u64, runs: u32) -> Vec<Figure> {
         .flat_map(|entry| entry.to_le_bytes())
         .collect();
     assert!(as_bytes == right, "the C loop and the judge differ");
-    let sides = vec![
-        side(OURS, || host::produce(Empty::Null, &record, &mut ours)),
-        side("c-loop", || baseline::produce(&record, &mut theirs)),
-    ];
-    figures("produce", length, best(sides, runs))
+    let same = record.clone();
+    [
+        side(OURS, move || host::produce(Empty::Null, &record, &mut ours)),
+        side("c-loop", move || baseline::produce(&same, &mut theirs)),
+    ]
 }
 
-/// The check of a right assignment, so that every row is looked at, beside
-/// the stored sparse matrix in C and beside the judge.
+/// The producer beside the plain C loop at these lengths, all of them turn by
+/// turn: a slow spell of the machine then bends no line over the blocks.
+pub fn produce(lengths: &[u64], runs: u32) -> Vec<Vec<Figure>> {
+    let sides = lengths.iter().flat_map(|&length| producers(length));
+    let times = best(sides.collect(), runs);
+    let each = lengths.iter().zip(times.chunks(2));
+    each.map(|(&length, two)| figures("produce", length, two.to_vec()))
+        .collect()
+}
+
+/// The producer at these lengths in the same memory, turn by turn too: every
+/// call writes the part of it after the last call's, and a length's calls go
+/// through all of it. So the caches serve each length alike, and what is off a
+/// straight line is the code's.
+pub fn growth(lengths: &[u64], runs: u32) -> Vec<Figure> {
+    let size = |length| Length::new(length).map_or(0, Length::assignment_bytes);
+    let memory = RefCell::new(vec![0u8; 16 * size(0)]);
+    let call = |length| {
+        let (record, size, memory) = (record(length), size(length), &memory);
+        let mut begin = 0;
+        side(OURS, move || {
+            let mut memory = memory.borrow_mut();
+            if begin + size > memory.len() {
+                begin = 0;
+            }
+            let out = &mut memory[begin..begin + size];
+            begin += size;
+            assert_eq!(host::produce(Empty::Null, &record, out), 0);
+        })
+    };
+    let sides = lengths.iter().map(|&length| call(length)).collect();
+    let times = lengths.iter().zip(best(sides, runs));
+    let figure = |(&length, time)| figures(SAME_MEMORY, length, vec![time]);
+    times.flat_map(figure).collect()
+}
+
+/// A record's claim with the rows of its length, as the judge has them and as
+/// the stored sparse matrix.
+struct Claim {
+    length: Length,
+    digest: [u8; 32],
+    assignment: Vec<u8>,
+    table: RowTable,
+    matrix: Matrix,
+}
+
+impl Claim {
+    fn new(bytes: u64) -> Claim {
+        let record = record(bytes);
+        let length = Length::of(&record).expect("a record in range");
+        let table = rows::rows(length);
+        Claim {
+            length,
+            digest: sm3::hash(&record),
+            assignment: layout::assignment(&record),
+            matrix: Matrix::new(length, &table),
+            table,
+        }
+    }
+
+    /// The check beside the stored sparse matrix on these bytes, and beside
+    /// the judge where it is asked for. All must answer alike.
+    fn measure(mut self, name: &'static str, answer: u64, judge: bool, runs: u32) -> Vec<Figure> {
+        let (bytes, digest, assignment) =
+            (self.length.bytes() as u64, self.digest, &self.assignment);
+        let ours = || host::check(Empty::Null, bytes, &digest, assignment);
+        let judged = || check_with(&self.table, self.length, assignment, &digest);
+        let known = match judged() {
+            Ok(()) => 0,
+            Err(Refusal::Unsatisfied(row)) => 9 | u64::from(row.0) << 8,
+            Err(refusal) => u64::from(refusal.number()),
+        };
+        let theirs = self.matrix.check(&digest, assignment);
+        assert_eq!([ours(), theirs, known], [answer; 3]);
+        let mut sides = vec![
+            side(OURS, ours),
+            side("c-sparse", || self.matrix.check(&digest, assignment)),
+        ];
+        if judge {
+            sides.push(side("judge", judged));
+        }
+        figures(name, bytes, best(sides, runs))
+    }
+}
+
+/// The check of a right assignment, beside the stored sparse matrix in C and
+/// beside the judge.
 pub fn check(length: u64, runs: u32) -> Vec<Figure> {
-    let record = record(length);
-    let (digest, assignment) = (sm3::hash(&record), layout::assignment(&record));
-    let known = Length::of(&record).expect("a record in range");
-    let table = rows::rows(known);
-    let mut matrix = Matrix::new(known, &table);
-    let ours = || host::check(Empty::Null, length, &digest, &assignment);
-    let judged = || check_with(&table, known, &assignment, &digest);
-    assert_eq!((ours(), matrix.check(&digest, &assignment)), (0, 0));
-    assert_eq!(judged(), Ok(()));
-    let mut damaged = assignment.clone();
-    let last = damaged.len() - 8;
-    damaged[last] ^= 1;
-    assert_eq!(
-        host::check(Empty::Null, length, &digest, &damaged),
-        matrix.check(&digest, &damaged)
-    );
-    let sides = vec![
-        side(OURS, ours),
-        side("c-sparse", || matrix.check(&digest, &assignment)),
-        side("judge", judged),
-    ];
-    figures("check", length, best(sides, runs))
+    Claim::new(length).measure("check", 0, true, runs)
+}
+
+/// The check of a right assignment with p added to every entry: it is accepted
+/// all the same, but no entry is the number 0 or 1.
+pub fn check_shifted(length: u64, runs: u32) -> Vec<Figure> {
+    let mut claim = Claim::new(length);
+    for eight in claim.assignment.chunks_exact_mut(8) {
+        let entry = u64::from_le_bytes((&*eight).try_into().expect("eight bytes"));
+        eight.copy_from_slice(&(entry + P).to_le_bytes());
+    }
+    claim.measure("check-shifted", 0, false, runs)
+}
+
+/// The check of an assignment whose last entry, the lowest bit of the last
+/// block's result, is turned over. The digest wires agree with the digest, and
+/// all rows hold up to the last one of the last block, which ties that bit to
+/// the rounds; 256 digest rows come after it.
+pub fn check_refused(length: u64, runs: u32) -> Vec<Figure> {
+    let mut claim = Claim::new(length);
+    let last = claim.assignment.len() - 8;
+    claim.assignment[last] ^= 1;
+    let row = claim.table.count() as u64 - 256 - 1;
+    claim.measure("check-refused", 9 | row << 8, false, runs)
 }
 
 /// All rows of the longest records by the program `rows`: lines a second.

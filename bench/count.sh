@@ -1,0 +1,55 @@
+#!/bin/sh
+# Counts by cachegrind, which no busy machine disturbs: the instructions of a digest on each side, and those of the
+# producer's blocks with the lines that are missed by caches as large as this machine's first two.
+# SM3ROWS_LIB names the archive; without it, it is the one that `rt staticlib sm3rows` writes.
+set -eu
+
+root=$(cd "$(dirname "$0")/.." && pwd)
+archive=${SM3ROWS_LIB:-$root/target/staticlib/libsm3rows.a}
+[ -f "$archive" ] || { echo "no archive: run 'rt staticlib sm3rows' first" >&2; exit 1; }
+command -v valgrind > /dev/null || { apt-get update && apt-get install -y valgrind; } > /dev/null
+echo 'int main(void) { return 0; }' | gcc -x c - -lcrypto -lgcrypt -o /dev/null 2> /dev/null ||
+    { apt-get update && apt-get install -y gcc libssl-dev libgcrypt20-dev; } > /dev/null
+
+mkdir -p "$root/target/bench"
+program=$root/target/bench/count
+gcc -std=c11 -O2 -Wall -Wextra -I "$root/include" "$root/bench/count.c" "$archive" -lcrypto -lgcrypt -o "$program"
+first=$(getconf LEVEL1_DCACHE_SIZE),$(getconf LEVEL1_DCACHE_ASSOC),64
+second=$(getconf LEVEL2_CACHE_SIZE),$(getconf LEVEL2_CACHE_ASSOC),64
+
+# whole SIDE BYTES CALLS [FEATURE]: instructions, misses of the first cache and of the second, of the whole program.
+whole() {
+    valgrind --tool=cachegrind --cachegrind-out-file=/dev/null --D1="$first" --LL="$second" "$program" "$@" 2>&1 |
+        tr -d , | awk '/I +refs:/ { i = $4 } /D1 +misses:/ { d = $4 } /LLd misses:/ { l = $4 } END { print i, d, l }'
+}
+
+# call SIDE BYTES [FEATURE]: the same of one call. What six calls have more than two is four calls'.
+call() {
+    side=$1 bytes=$2
+    shift 2
+    { whole "$side" "$bytes" 2 "$@"; whole "$side" "$bytes" 6 "$@"; } |
+        awk 'NR == 1 { i = $1; d = $2; l = $3 } NR == 2 { print ($1 - i) / 4, ($2 - d) / 4, ($3 - l) / 4 }'
+}
+
+# digest SIDE [FEATURE]: a line for a side's digest; 1,015 bytes have fifteen blocks more than none.
+digest() {
+    name=$1
+    shift
+    { call "$name" 0 "$@"; call "$name" 1015 "$@"; } | awk -v name="$name${1:+ without $1}" '
+        NR == 1 { none = $1 }
+        NR == 2 { printf "%-30s %6.0f %6.0f %6.0f\n", name, none, $1, ($1 - none) / 15 }'
+}
+
+echo "instructions of a digest             0   1015  a block more"
+digest digest
+digest openssl
+digest libgcrypt
+for feature in intel-avx intel-avx2 intel-bmi2; do
+    digest libgcrypt "$feature"
+done
+echo "produce, a block of it; caches of $first and $second (bytes, ways, line)"
+echo "blocks  instructions  missed by the first  by the second"
+for blocks in 1 2 4 8 16; do
+    call produce "$((64 * blocks - 9))" |
+        awk -v n="$blocks" '{ printf "%6d %13.0f %20.0f %14.0f\n", n, $1 / n, $2 / n, $3 / n }'
+done
