@@ -72,12 +72,20 @@ impl Claim {
     /// Adds a random multiple of p to every entry, up to what 8 bytes hold;
     /// a bit may take 0 to 8 times p.
     pub fn shift(&mut self, random: &mut Random) {
+        self.shift_one_in(1, random);
+    }
+
+    /// The same to one entry in so many.
+    pub fn shift_one_in(&mut self, times: usize, random: &mut Random) {
         for wire in 0..self.wires() {
+            if !random.one_in(times) {
+                continue;
+            }
             let value = self.entry(wire);
             let most = (u64::MAX - value) / P;
             self.set(wire, value + P * random.below(most as usize + 1) as u64);
         }
-        self.note += ", shifted by multiples of p";
+        self.note += &format!(", one entry in {times} shifted by multiples of p");
     }
 
     /// Adds the same multiple of p to every entry that can take it.

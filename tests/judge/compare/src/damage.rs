@@ -26,8 +26,8 @@ pub const WAYS: [(&str, Damage); 11] = [
 ];
 
 /// Wires of a block, and the wire at which block 0 begins.
-const BLOCK: usize = 22_528;
-const FIRST: usize = 513;
+pub const BLOCK: usize = 22_528;
+pub const FIRST: usize = 513;
 
 /// A value to put in the place of another.
 fn value(old: u64, random: &mut Random) -> u64 {

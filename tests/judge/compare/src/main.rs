@@ -11,6 +11,7 @@ mod calls;
 mod claim;
 mod damage;
 mod forge;
+mod kinds;
 mod lent;
 mod packing;
 mod plan;

@@ -6,7 +6,7 @@ use judge::length::LONGEST;
 use crate::calls::Calls;
 use crate::claim::Ground;
 use crate::program::Program;
-use crate::{refusals, sections};
+use crate::{kinds, refusals, sections};
 
 /// How much of everything.
 pub struct Amounts {
@@ -26,6 +26,9 @@ pub struct Amounts {
     /// Lengths with wires turned over, and the step from wire to wire.
     wires: Vec<(u64, usize)>,
     several_wires: usize,
+    /// Lengths with changes placed by the kind of the wire and by the block,
+    /// and how many for each.
+    kinds: Vec<(u64, usize)>,
     /// Lengths with all refusals, and how often each choice of faults.
     refused: Vec<(u64, usize)>,
     /// Right lines, and as many damaged ones, to each program.
@@ -46,6 +49,7 @@ impl Amounts {
             damaged: vec![(9, 40), (100, 12), (1015, 1)],
             wires: vec![(55, 61), (119, 997), (1015, 40_009)],
             several_wires: 20,
+            kinds: vec![(55, 20), (119, 10), (1015, 1)],
             refused: vec![(0, 2), (56, 1)],
             lines: 40,
         }
@@ -74,6 +78,7 @@ impl Amounts {
             ],
             wires: vec![(0, 7), (55, 1), (119, 13), (1015, 997)],
             several_wires: 400,
+            kinds: vec![(0, 50), (55, 200), (119, 100), (500, 10), (1015, 5)],
             refused: vec![(0, 20), (55, 20), (56, 10), (500, 2), (1015, 2)],
             lines: 1_000,
         }
@@ -124,6 +129,18 @@ pub fn jobs(amounts: &Amounts, seed: u64, rows: Program, steps: Program) -> Vec<
             sections::shifts(calls, &ground);
             sections::damages(calls, &ground, count);
         }));
+    }
+    for &(length, count) in amounts.kinds.iter().rev() {
+        jobs.push(job(
+            format!("kind by kind at length {length}"),
+            move |calls| {
+                let ground = Ground::new(length);
+                kinds::each_kind(calls, &ground, count);
+                kinds::single_shifts(calls, &ground, count);
+                kinds::two_changes(calls, &ground, 20 * count);
+                kinds::other_beginnings(calls, &ground, count);
+            },
+        ));
     }
     for &(length, step) in amounts.wires.iter().rev() {
         wire_jobs(&mut jobs, length, step, amounts.several_wires, seed);

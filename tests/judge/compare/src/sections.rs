@@ -112,7 +112,7 @@ pub fn sampled_rows(calls: &mut Calls, ground: &Ground, count: usize) {
     calls.tally.count("lengths with sampled rows", 1);
 }
 
-fn check(calls: &mut Calls, ground: &Ground, claim: &Claim) {
+pub fn check(calls: &mut Calls, ground: &Ground, claim: &Claim) {
     let (digest, assignment) = (&claim.digest, &claim.assignment);
     let judged = calls.check(
         &ground.table,
@@ -137,12 +137,18 @@ pub fn right_claims(calls: &mut Calls, ground: &Ground) {
         .count("lengths with right claims, as they are and shifted", 1);
 }
 
-/// A right claim shifted as a whole by p, 2 p, up to 8 p.
+/// A right claim shifted as a whole by p, 2 p, up to 8 p; then here and there,
+/// so that most words have one entry that is shifted, or every other.
 pub fn shifts(calls: &mut Calls, ground: &Ground) {
     let right = ground.claim(&mut calls.random);
     for times in 1..=8 {
         let mut claim = right.clone();
         claim.shift_all(times);
+        check(calls, ground, &claim);
+    }
+    for times in [2, 24, 1_000] {
+        let mut claim = right.clone();
+        claim.shift_one_in(times, &mut calls.random);
         check(calls, ground, &claim);
     }
 }
