@@ -26,7 +26,7 @@ number-cong zero b c h = refl
 number-cong (suc n) b c h = ap₂ (λ (x y : ℕ). x * 2 + y) (number-cong n b c (λ i l. h i (omega arith))) (h n (le-refl (suc n)))
 
 -- the first m bits, then the n after them
-number-split : (m n : ℕ) (b : ℕ → ℕ) → number (m + n) b ≡ number m b * 2 ^ n + number n (λ i. b (m + i))
+pub number-split : (m n : ℕ) (b : ℕ → ℕ) → number (m + n) b ≡ number m b * 2 ^ n + number n (λ i. b (m + i))
 unfolding number
 number-split m zero b = rw (add-zero m) (sym (add-zero (number m b * 1) ∙ mul-one (number m b)))
 number-split m (suc n) b =

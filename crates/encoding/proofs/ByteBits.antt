@@ -1,4 +1,4 @@
--- Bytes and their bits. Eight bits write a byte and are read off it again, so the record of some bits has those bits, and
+-- Bytes and their bits. Eight bits write a byte and are read off it again, so the bytes of some bits have those bits, and
 -- bytes that have the same bits are the same.
 use mathlib.Core.List.{List}
 use mathlib.Core.Logic.{by-cases}
@@ -11,8 +11,8 @@ use lib.Dec.{lit<}
 use lib.ListN.{List·getD-eq-default, length}
 use lib.Seq.{ext-getD}
 use Rattle.encoding.proofs.Bits.{bit-of-byte, bit-of-number, number-cong, number-lt, number-of-byte}
-use Rattle.encoding.proofs.Tab.{getD-tab, length-tab}
-use Rattle.encoding.specs.Bits.{bitOfBytes, number}
+use Rattle.encoding.proofs.Tab.{getD-tab, length-tab, tab-congruent}
+use Rattle.encoding.specs.Bits.{bitOfBytes, bytesOfBits, number}
 use Rattle.encoding.specs.Bytes.{Bytes}
 use Rattle.encoding.specs.Sequence.{tab}
 
@@ -30,24 +30,27 @@ bytes-ext xs ys e hx hy same =
     (λ k l.
     sym (number-of-byte xs k (hx k)) ∙ number-cong 8 _ _ (λ i h. same (8 * k + i) (omega arith)) ∙ number-of-byte ys k (hy k))
 
--- the record of the 8 L bits r
-unfoldable pub recordOf : ℕ → (ℕ → ℕ) → List ℕ
-recordOf L r = tab L (λ k. number 8 (λ i. r (8 * k + i)))
+-- the bytes that bits write
+pub length-bytes-of-bits : (n : ℕ) (b : ℕ → ℕ) → length (bytesOfBits n b) ≡ n
+unfolding bytesOfBits
+length-bytes-of-bits n b = length-tab n _
 
-pub length-record : (L : ℕ) (r : ℕ → ℕ) → length (recordOf L r) ≡ L
-unfolding recordOf
-length-record L r = length-tab L _
+module _ (n : ℕ) (b : ℕ → ℕ) (bits : (k : ℕ) → k < 8 * n → b k < 2) where
+  pub bytes-of-bits : Bytes (bytesOfBits n b)
+  unfolding bytesOfBits
+  bytes-of-bits = tab-bytes n _ (λ k l. number-lt 8 (λ i. b (8 * k + i)) (λ i h. bits (8 * k + i) (omega arith)))
 
-module _ (L : ℕ) (r : ℕ → ℕ) (bits : (k : ℕ) → k < 8 * L → r k < 2) where
-  pub record-bytes : Bytes (recordOf L r)
-  unfolding recordOf
-  record-bytes = tab-bytes L _ (λ k l. number-lt 8 (λ i. r (8 * k + i)) (λ i h. bits (8 * k + i) (omega arith)))
+  pub bit-of-bits : (k : ℕ) → k < 8 * n → bitOfBytes (bytesOfBits n b) k ≡ b k
+  unfolding bytesOfBits
+  bit-of-bits k l =
+      ap (bitOfBytes (bytesOfBits n b)) (sym (div-add-mod k 8))
+      ∙ bit-of-byte (bytesOfBits n b) (k / 8) (k % 8) (omega arith)
+      ∙ ap (λ x. x / 2 ^ (7 - k % 8) % 2) (getD-tab n _ (k / 8) 0 (omega arith))
+      ∙ bit-of-number 8 (λ i. b (8 * (k / 8) + i)) (k % 8) (λ i h. bits (8 * (k / 8) + i) (omega arith)) (omega arith)
+      ∙ ap b (div-add-mod k 8)
 
-  pub bit-of-record : (k : ℕ) → k < 8 * L → bitOfBytes (recordOf L r) k ≡ r k
-  unfolding recordOf
-  bit-of-record k l =
-      ap (bitOfBytes (recordOf L r)) (sym (div-add-mod k 8))
-      ∙ bit-of-byte (recordOf L r) (k / 8) (k % 8) (omega arith)
-      ∙ ap (λ x. x / 2 ^ (7 - k % 8) % 2) (getD-tab L _ (k / 8) 0 (omega arith))
-      ∙ bit-of-number 8 (λ i. r (8 * (k / 8) + i)) (k % 8) (λ i h. bits (8 * (k / 8) + i) (omega arith)) (omega arith)
-      ∙ ap r (div-add-mod k 8)
+-- only the first 8 n bits count
+pub bytes-of-bits-congruent : (n : ℕ) (b c : ℕ → ℕ) → ((k : ℕ) → k < 8 * n → b k ≡ c k) → bytesOfBits n b ≡ bytesOfBits n c
+unfolding bytesOfBits
+bytes-of-bits-congruent n b c same =
+    tab-congruent n _ _ (λ k l. number-cong 8 _ _ (λ i h. same (8 * k + i) (omega arith)))

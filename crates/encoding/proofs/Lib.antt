@@ -2,7 +2,9 @@ pub mod Bits
 pub mod ByteBits
 pub mod Bytes
 pub mod Filling
+pub mod Lowest
 pub mod Regroup
 pub mod Sequence
 pub mod Tab
+pub mod WordBytes
 pub mod Written

@@ -1,4 +1,5 @@
 pub mod Bits
 pub mod Bytes
+pub mod Lowest
 pub mod Sequence
 pub mod Written

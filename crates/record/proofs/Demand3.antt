@@ -14,8 +14,8 @@ use Rattle.assignment.specs.Assignment.{entry, entryBytes}
 use Rattle.circuit.specs.Circuit.{rowAt}
 use Rattle.circuit.specs.Wires.{wireCount}
 use Rattle.encoding.proofs.Bits.{bit-of-bytes-lt}
-use Rattle.encoding.proofs.ByteBits.{bit-of-record, bytes-ext, length-record, record-bytes, recordOf}
-use Rattle.encoding.specs.Bits.{bitOfBytes}
+use Rattle.encoding.proofs.ByteBits.{bit-of-bits, bytes-ext, bytes-of-bits, length-bytes-of-bits}
+use Rattle.encoding.specs.Bits.{bitOfBytes, bytesOfBits}
 use Rattle.encoding.specs.Bytes.{Bytes}
 use Rattle.forms.proofs.exact.Runs.{Agree}
 use Rattle.record.proofs.Acceptance.{Accepts, accepted-iff}
@@ -60,29 +60,29 @@ module _ (L : ℕ) (d a : List ℕ) (accepted : IsAccepted L d a) where
   accepts : Accepts L d a
   accepts = accepted-iff L d a .0 accepted
 
-  accepted-wires : (w : ℕ) → w < wireCount (8 * L) → entry a w ≡ wireOf (8 * L) (readOff (entry a)) w
+  pub accepted-wires : (w : ℕ) → w < wireCount (8 * L) → entry a w ≡ wireOf (8 * L) (readOff (entry a)) w
   unfolding rowAt
   accepted-wires w l =
       ap (entry a) (sym (zero-add w))
       ∙ circuit (8 * L) (entry a) (record { one = accepts .passed .one; below = entry-lt a }) .0 (accepts .satisfied) w l
 
   abbrev readRecord : List ℕ
-  readRecord = recordOf L (readOff (entry a))
+  readRecord = bytesOfBits L (readOff (entry a))
 
   read-wires : HasWires readRecord a
   read-wires =
       let bits : (k : ℕ) → k < 8 * L → readOff (entry a) k < 2 = λ k l. omega arith in
       let same : wireOf (8 * L) (bitOfBytes readRecord) ≡ wireOf (8 * L) (readOff (entry a)) =
-      wires-congruent (8 * L) _ _ (bit-of-record L (readOff (entry a)) bits) in
+      wires-congruent (8 * L) _ _ (bit-of-bits L (readOff (entry a)) bits) in
       subst (λ n. (w : ℕ) → w < wireCount (8 * n) → entry a w ≡ wireOf (8 * n) (bitOfBytes readRecord) w)
-      (sym (length-record L (readOff (entry a))))
+      (sym (length-bytes-of-bits L (readOff (entry a))))
       (λ w l. accepted-wires w l ∙ ap (λ s. s w) (sym same))
 
   accepted-record : Bytes d → (r : List ℕ) × (length r ≡ L) × Bytes r × (digestBytes r ≡ d) × HasWires r a
   accepted-record h = (
     readRecord,
-    length-record L (readOff (entry a)),
-    record-bytes L (readOff (entry a)) (λ k l. omega arith),
+    length-bytes-of-bits L (readOff (entry a)),
+    bytes-of-bits L (readOff (entry a)) (λ k l. omega arith),
     bytes-ext (digestBytes readRecord) d (length-digest readRecord ∙ sym (accepts .passed .digest-length))
         (digest-bytes readRecord) h
         (λ k l.

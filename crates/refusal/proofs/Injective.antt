@@ -10,7 +10,7 @@ use Rattle.refusal.specs.Refusals.{refusalNumber, refusalValues}
 use Rattle.refusal.specs.declared.outcome.Outcome.{Outcome}
 use Rattle.refusal.specs.declared.outcome.Outcome.the-variants.{Done, Refused}
 use Rattle.refusal.specs.declared.outcome.Refusal.{Refusal}
-use Rattle.refusal.specs.declared.outcome.Refusal.the-variants.{LengthAboveLimit, RowOutOfRange, BufferTooShort, DigestNot32, WrongLength, WireZero, DigestWire, Unsatisfied}
+use Rattle.refusal.specs.declared.outcome.Refusal.the-variants.{LengthAboveLimit, RowOutOfRange, BufferTooShort, DigestNot32, WrongLength, WireZero, DigestWire, Unsatisfied, EntryNotBit, WrongPackedLength, SpareBit}
 
 -- what can be read back is equal where its numbers are
 pub injective : {A : Type 0} (f : A → ℕ) (g : ℕ → A) {a b : A} → g (f a) ≡ a → g (f b) ≡ b → f a ≡ f b → a ≡ b
@@ -29,15 +29,19 @@ refusalOfNumber n k =
     (cond (eqb n 5) DigestNot32
     (cond (eqb n 6) WrongLength
     (cond (eqb n 7) WireZero
-    (cond (eqb n 8) DigestWire (Unsatisfied (record { 0 = k }))))))))
+    (cond (eqb n 8) DigestWire
+    (cond (eqb n 9) (Unsatisfied (record { 0 = k }))
+    (cond (eqb n 10) (EntryNotBit (record { 0 = k }))
+    (cond (eqb n 11) WrongPackedLength SpareBit)))))))))
 
 refusalBack : ℕ → Refusal
 refusalBack v = refusalOfNumber (v % 256) (v / 256)
 
-named-back : (k v : ℕ) → v ≡ 9 + 256 * k → refusalBack v ≡ Unsatisfied (record { 0 = k })
-unfolding refusalBack refusalOfNumber
-named-back k v e =
-    let number = apart 9 k v (omega arith) e in
+-- a number below 256 with a value above it
+named-back : (n k v : ℕ) → n < 256 → v ≡ n + 256 * k → refusalBack v ≡ refusalOfNumber n k
+unfolding refusalBack
+named-back n k v small e =
+    let number = apart n k v small e in
     rw (number .0, number .1)
 
 refusal-back : (r : Refusal) → refusalBack (packed (refusalNumber r) (refusalValues r)) ≡ r
@@ -50,7 +54,11 @@ refusal-back WrongLength = refl
 refusal-back WireZero = refl
 refusal-back DigestWire = refl
 refusal-back (Unsatisfied k) =
-    named-back (k .0) (packed (refusalNumber (Unsatisfied k)) (refusalValues (Unsatisfied k))) (omega arith)
+    named-back 9 (k .0) (packed (refusalNumber (Unsatisfied k)) (refusalValues (Unsatisfied k))) (omega arith) (omega arith)
+refusal-back (EntryNotBit w) =
+    named-back 10 (w .0) (packed (refusalNumber (EntryNotBit w)) (refusalValues (EntryNotBit w))) (omega arith) (omega arith)
+refusal-back WrongPackedLength = refl
+refusal-back SpareBit = refl
 
 pub refusal-injective : (r s : Refusal)
     → packed (refusalNumber r) (refusalValues r) ≡ packed (refusalNumber s) (refusalValues s) → r ≡ s
@@ -67,6 +75,9 @@ refused WrongLength e = omega arith
 refused WireZero e = omega arith
 refused DigestWire e = omega arith
 refused (Unsatisfied k) e = omega arith
+refused (EntryNotBit w) e = omega arith
+refused WrongPackedLength e = omega arith
+refused SpareBit e = omega arith
 
 pub outcome-injective : (a b : Outcome) → packedOutcome a ≡ packedOutcome b → a ≡ b
 outcome-injective Done Done e = refl

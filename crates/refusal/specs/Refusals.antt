@@ -1,18 +1,18 @@
--- The paper's number of every refusal and its values (document 01, "Refusals in checking order": "Each returns its number
+-- The papers' number of every refusal and its values (document 01, "Refusals in checking order": "Each returns its number
 -- and nothing else unless said; no lent byte changes"), and what an operation leaves in a buffer.
 use mathlib.Core.List.{List, [], _∷_}
 use Prim.Native.Nat.{ℕ}
 use Rattle.refusal.specs.declared.outcome.Outcome.{Outcome}
 use Rattle.refusal.specs.declared.outcome.Outcome.the-variants.{Done, Refused}
 use Rattle.refusal.specs.declared.outcome.Refusal.{Refusal}
-use Rattle.refusal.specs.declared.outcome.Refusal.the-variants.{LengthAboveLimit, RowOutOfRange, BufferTooShort, DigestNot32, WrongLength, WireZero, DigestWire, Unsatisfied}
+use Rattle.refusal.specs.declared.outcome.Refusal.the-variants.{LengthAboveLimit, RowOutOfRange, BufferTooShort, DigestNot32, WrongLength, WireZero, DigestWire, Unsatisfied, EntryNotBit, WrongPackedLength, SpareBit}
 
 abbrev pub refusalNumber : Refusal → ℕ
 -- "2. The record length is above 1,015."
 refusalNumber LengthAboveLimit = 2
 -- "3. The row number is not below the row count"
 refusalNumber RowOutOfRange = 3
--- "4. The buffer to be written is shorter than .."
+-- "4. The buffer to be written is shorter than .."; from document 02 on "any other written buffer shorter than its result"
 refusalNumber BufferTooShort = 4
 -- "5. The digest that an assignment is held against is not 32 bytes."
 refusalNumber DigestNot32 = 5
@@ -24,6 +24,12 @@ refusalNumber WireZero = 7
 refusalNumber DigestWire = 8
 -- "9. A row is not satisfied"
 refusalNumber (Unsatisfied k) = 9
+-- document 02, request 1: "10, in packing only, an entry reads neither 0 nor 1"
+refusalNumber (EntryNotBit w) = 10
+-- "11, the packed length is not the wires over 8 rounded up"
+refusalNumber WrongPackedLength = 11
+-- "12, a spare bit is set"
+refusalNumber SpareBit = 12
 
 abbrev pub refusalValues : Refusal → List ℕ
 refusalValues LengthAboveLimit = []
@@ -35,6 +41,10 @@ refusalValues WireZero = []
 refusalValues DigestWire = []
 -- "the lowest row that is not satisfied is returned with it"
 refusalValues (Unsatisfied k) = k .0 ∷ []
+-- "lowest wire returned"
+refusalValues (EntryNotBit w) = w .0 ∷ []
+refusalValues WrongPackedLength = []
+refusalValues SpareBit = []
 
 -- the answer of an operation that hands nothing back: 0 for no refusal
 abbrev pub outcomeNumber : Outcome → ℕ

@@ -3,6 +3,7 @@ ghost use mathlib.Core.Path.{_≡_};
 ghost use Prim.Native.Nat.{_<_};
 ghost use Rattle.refusal.specs.Refusals.{refusalNumber};
 use crate::numbers::RowNumber;
+use crate::numbers::WireNumber;
 
 // The refusals that several operations share, in the order of their numbers.
 pub enum Refusal {
@@ -22,6 +23,12 @@ pub enum Refusal {
     DigestWire,
     // 9: the lowest row that is not satisfied.
     Unsatisfied(RowNumber),
+    // 10: the lowest wire that reads neither 0 nor 1.
+    EntryNotBit(WireNumber),
+    // 11: the packed bytes are not the wires over 8 rounded up.
+    WrongPackedLength,
+    // 12: a spare bit is set.
+    SpareBit,
 }
 
 // The answer of an operation that hands nothing back: it is done, or it is refused and no lent byte is altered.
@@ -43,5 +50,8 @@ pub fn number_of(refusal: Refusal) -> u64
         Refusal::WireZero => 7,
         Refusal::DigestWire => 8,
         Refusal::Unsatisfied(_) => 9,
+        Refusal::EntryNotBit(_) => 10,
+        Refusal::WrongPackedLength => 11,
+        Refusal::SpareBit => 12,
     }
 }

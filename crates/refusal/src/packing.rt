@@ -20,6 +20,9 @@ fn value_of(refusal: Refusal) -> u64
         Refusal::WireZero => 0,
         Refusal::DigestWire => 0,
         Refusal::Unsatisfied(row) => row.0,
+        Refusal::EntryNotBit(wire) => wire.0,
+        Refusal::WrongPackedLength => 0,
+        Refusal::SpareBit => 0,
     }
 }
 

@@ -8,6 +8,8 @@ use Rattle.assignment.specs.Assignment.{entry}
 use Rattle.block.specs.BlockWires.{computedWires, stateWires}
 use Rattle.block.specs.Wires.{computedPerBlock, expansionAt}
 use Rattle.encoding.specs.Bits.{number}
+use Rattle.satisfaction.specs.declared.word_read.WordRead.the-variants.{NotBits, Word}
+use Rattle.satisfaction.specs.declared.word_read.WordRead.{WordRead}
 use Rattle.sm3.specs.Sm3.{wordOf}
 use Rattle.sm3.specs.declared.state.State.{State}
 
@@ -19,6 +21,11 @@ pub record Agrees (w n : ℕ) (s : ℕ → ℕ) (bytes : List ℕ) : Type 0 wher
 pub record BitsOf (w n x : ℕ) (bytes : List ℕ) : Type 0 where
   pub bits : (i : ℕ) → i < n → entry bytes (w + i) < 2
   pub value : x ≡ number n (λ i. entry bytes (w + i))
+
+-- what was read off the 32 wires from w on: the word of their bits, or that not all of them are bits
+pub record IsWordRead (r : WordRead) (w : ℕ) (bytes : List ℕ) : Type 0 where
+  pub word : (x : ℕ) → r ≡ Word x → BitsOf w 32 x bytes
+  pub not-bits : r ≡ NotBits → ((i : ℕ) → i < 32 → entry bytes (w + i) < 2) → ⊥
 
 -- .. of n words, one after the other
 pub record BitsOfWords (w n : ℕ) (words bytes : List ℕ) : Type 0 where

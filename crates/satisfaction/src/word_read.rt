@@ -3,9 +3,8 @@ ghost use mathlib.Core.Bool.{true};
 ghost use mathlib.Core.Path.{_≡_};
 ghost use Prim.Native.Nat.{ℕ, _+_, _*_, _<_, _≤_};
 ghost use lib.ListN.{length};
-ghost use Rattle.satisfaction.specs.Agrees.{BitsOf, BitsOfState, BitsOfWords};
+ghost use Rattle.satisfaction.specs.Agrees.{BitsOf, BitsOfState, BitsOfWords, IsWordRead};
 ghost use Rattle.satisfaction.specs.declared.word_read.StateRead.the-variants.{Words};
-ghost use Rattle.satisfaction.specs.declared.word_read.WordRead.the-variants.{Word};
 ghost use Rattle.sm3.specs.declared.state.State.{State};
 use assignment::entry::raw;
 use assignment::entry::read;
@@ -55,7 +54,7 @@ pub fn read_standing(assignment: &[u8], w: WireNumber) -> Standing
 // The word on the 32 wires from w on, whatever numbers the entries are.
 pub fn reduced_word(assignment: &[u8], w: WireNumber) -> WordRead
     requires { ⌜ 8 * (w .0 + 32) ≤ length (now assignment) ⌝ }
-    ensures { λ r. ⌜ ((x : ℕ) → r ≡ Word x → BitsOf (w .0) 32 x (now (assignment .entry))) ⌝ }
+    ensures { λ r. ⌜ IsWordRead r (w .0) (now (assignment .entry)) ⌝ }
 {
     let mut x: u32 = 0;
     for i in 0..32 {
@@ -69,9 +68,9 @@ pub fn reduced_word(assignment: &[u8], w: WireNumber) -> WordRead
 }
 
 // The word on the 32 wires from w on.
-fn read_word(assignment: &[u8], w: WireNumber) -> WordRead
+pub fn read_word(assignment: &[u8], w: WireNumber) -> WordRead
     requires { ⌜ 8 * (w .0 + 32) ≤ length (now assignment) ⌝ }
-    ensures { λ r. ⌜ ((x : ℕ) → r ≡ Word x → BitsOf (w .0) 32 x (now (assignment .entry))) ⌝ }
+    ensures { λ r. ⌜ IsWordRead r (w .0) (now (assignment .entry)) ⌝ }
 {
     let s = read_standing(assignment, w);
     if s.seen < 2 {

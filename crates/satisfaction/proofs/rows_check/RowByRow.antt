@@ -1,10 +1,8 @@
 -- A row as the check judges it. The buffer holds the terms of the row's form, without the zero ones and in the letters' order;
--- their values are those of the row, where they stand sorted. The lowest row that fails is looked for row by row.
-use mathlib.Core.Bool.{cond, false, true}
+-- their values are those of the row, where they stand sorted.
 use mathlib.Core.List.{List}
 use mathlib.Core.Path.{_≡_, _∙_, ap, ap₂, subst, sym}
-use Prim.Native.Nat.{ℕ, suc, _+_, _-_, _*_, _%_, _≤_, _<_}
-use native.Mathlib.Numerals.{add-one}
+use Prim.Native.Nat.{ℕ, _+_, _-_, _*_, _%_, _≤_, _<_}
 use native.Mathlib.Omega.{arith}
 use lib.Dec.{eqb}
 use lib.ListN.{length}
@@ -20,7 +18,7 @@ use Rattle.forms.proofs.exact.Values.{value-nonzero, value-normal}
 use Rattle.forms.proofs.terms.FlatAll.{all-front}
 use Rattle.forms.proofs.terms.WrittenTerms.{filled-front, filled-length}
 use Rattle.forms.specs.Rows
-use Rattle.forms.specs.Rows.{Row, holds, letters, nonzero, rowOf, normalForm, value}
+use Rattle.forms.specs.Rows.{holds, letters, nonzero, rowOf, normalForm, value}
 use Rattle.forms.specs.Terms.{Filled, termRoom, unsorted}
 use Rattle.forms.specs.declared.form.Form.{Form}
 use Rattle.forms.specs.declared.form.Term.{Term}
@@ -28,7 +26,6 @@ use Rattle.forms.specs.declared.terms.Counts.{Counts}
 use Rattle.satisfaction.proofs.sums.RunningSum.{Value, judged-row}
 use Rattle.satisfaction.specs.Lent.{Lent}
 use Rattle.satisfaction.specs.Lowest.{lowest}
-use Rattle.satisfaction.specs.declared.rows_check.Verdict.the-variants.{AllSatisfied, Fails}
 use Rattle.sm3.specs.Message.{blocks}
 
 -- the row of a form is satisfied where that of its letters is
@@ -70,32 +67,6 @@ module _ (n k : ℕ) (q : Place) (at : q ≡ placeAt (blocks n) k) (r : Counts) 
   unfolding rowAt
   judged bytes a b c room va vb vc =
       judged-row bytes after before (unsorted (formAt n k)) r held room a b c va vb vc ∙ holds-letters (entry bytes) (formAt n k)
-
--- The lowest of the rows from k on, of n in all.
-
-module _ (a : ℕ → ℕ) (rows : ℕ → Row) (n k : ℕ) where
-  pub lowest-end : k ≡ n → lowest a rows k (n - k) ≡ AllSatisfied
-  unfolding lowest
-  lowest-end e =
-      let none-left : n - k ≡ 0 = omega arith in
-      ap (lowest a rows k) none-left
-
-  module _ (l : k < n) where
-    one-more : n - k ≡ suc (n - (k + 1))
-    one-more = omega arith
-
-    pub lowest-holds : holds a (rows k) ≡ true → lowest a rows k (n - k) ≡ lowest a rows (k + 1) (n - (k + 1))
-    unfolding lowest
-    lowest-holds h =
-        ap (lowest a rows k) one-more
-        ∙ ap (λ b. cond b (lowest a rows (suc k) (n - (k + 1))) (Fails (record { 0 = k }))) h
-        ∙ ap (λ i. lowest a rows i (n - (k + 1))) (sym (add-one k))
-
-    pub lowest-fails : holds a (rows k) ≡ false → lowest a rows k (n - k) ≡ Fails (record { 0 = k })
-    unfolding lowest
-    lowest-fails h =
-        ap (lowest a rows k) one-more
-        ∙ ap (λ b. cond b (lowest a rows (suc k) (n - (k + 1))) (Fails (record { 0 = k }))) h
 
 -- before a turn at row k, whose place is q: of the rows from `from` on and below `to`, all below row k hold
 pub record Turn (n : ℕ) (bytes : List ℕ) (from to : ℕ) (terms : List ℕ) (q : Place) (k : ℕ) : Type 0 where

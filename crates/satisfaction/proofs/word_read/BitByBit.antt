@@ -12,7 +12,7 @@ use Rattle.assignment.specs.Assignment.{entry}
 use Rattle.encoding.specs.Bits.{number}
 use Rattle.encoding.specs.Bytes.{fromLeastFirst}
 use Rattle.satisfaction.proofs.Agreeing.{bits-lt}
-use Rattle.satisfaction.specs.Agrees.{BitsOf}
+use Rattle.satisfaction.specs.Agrees.{BitsOf, IsWordRead}
 use Rattle.satisfaction.specs.declared.word_read.WordRead.the-variants.{NotBits, Word}
 
 pub no-bit : (w : ℕ) (bytes : List ℕ) → BitsOf w 0 0 bytes
@@ -53,12 +53,21 @@ one-standing {w} {i} {x} {y} {z} {seen} {n} {bytes} l e double sum h few =
 
 -- The answers.
 
-pub not-word : (x : ℕ) → NotBits ≡ Word x → ⊥
+not-word : (x : ℕ) → NotBits ≡ Word x → ⊥
 not-word x e =
     let z : _≡_ {A = ℕ} 0 1 = cc in
     omega arith
 
-pub word-read : {w y : ℕ} {bytes : List ℕ} → BitsOf w 32 y bytes → (x : ℕ) → Word y ≡ Word x → BitsOf w 32 x bytes
-word-read {w} {y} {bytes} h x e =
-    let same : y ≡ x = cc in
-    subst (λ v. BitsOf w 32 v bytes) same h
+pub word-read : {w y : ℕ} {bytes : List ℕ} → BitsOf w 32 y bytes → IsWordRead (Word y) w bytes
+word-read {w} {y} {bytes} h =
+    record {
+      word =
+          λ x e.
+          let same : y ≡ x = cc in
+          subst (λ v. BitsOf w 32 v bytes) same h;
+      not-bits = λ e. absurd (not-word y (sym e));
+    }
+
+-- wire i of the 32 is no bit
+pub no-word-read : {w : ℕ} {bytes : List ℕ} (i : ℕ) → i < 32 → 1 < entry bytes (w + i) → IsWordRead NotBits w bytes
+no-word-read {w} i l h = record { word = λ x e. absurd (not-word x e); not-bits = λ e all. omega (arith, all i l) }

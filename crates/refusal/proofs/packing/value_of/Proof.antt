@@ -1,4 +1,4 @@
--- Each arm is told which refusal it is at; only the last has a value.
+-- Each arm is told which refusal it is at; two of them have a value.
 use mathlib.Core.Path.{ap}
 use native.Mathlib.Omega.{arith}
 use borrow.Author.Needs.{needs}
@@ -31,6 +31,15 @@ enum-told-7 c = search needs
 enum-known-refusal : tie.Need-enum-known-refusal
 enum-known-refusal c = search needs
 
+enum-known-refusal-2 : tie.Need-enum-known-refusal-2
+enum-known-refusal-2 c = search needs
+
+enum-told-8 : tie.Need-enum-told-8
+enum-told-8 c = search needs
+
+enum-told-9 : tie.Need-enum-told-9
+enum-told-9 c = search needs
+
 returns : tie.Need-returns
 returns c = search needs
 
@@ -55,6 +64,15 @@ returns-7 c = search needs
 returns-8 : tie.Need-returns-8
 returns-8 c = omega (arith, ap (λ r. above (refusalValues r)) (c .before .refusal .given .1))
 
+returns-9 : tie.Need-returns-9
+returns-9 c = omega (arith, ap (λ r. above (refusalValues r)) (c .before .refusal2 .given .1))
+
+returns-10 : tie.Need-returns-10
+returns-10 c = search needs
+
+returns-11 : tie.Need-returns-11
+returns-11 c = search needs
+
 pub value-of-spec : {M : Type 1} → statement M
 value-of-spec =
     tie.close
@@ -67,6 +85,9 @@ value-of-spec =
     enum-told-6
     enum-told-7
     enum-known-refusal
+    enum-known-refusal-2
+    enum-told-8
+    enum-told-9
     returns
     returns-2
     returns-3
@@ -74,4 +95,7 @@ value-of-spec =
     returns-5
     returns-6
     returns-7
-    returns-8)
+    returns-8
+    returns-9
+    returns-10
+    returns-11)

@@ -11,7 +11,8 @@ use Rattle.circuit.proofs.place.PlaceRange.{in-circuit, most-rows}
 use Rattle.circuit.specs.Places.{placeAt}
 use Rattle.circuit.specs.Ranges.{InCircuit}
 use Rattle.encoding.proofs.Written.{length-written}
-use Rattle.satisfaction.proofs.rows_check.RowByRow.{Turn, judged, lent, lowest-end, lowest-fails, lowest-holds}
+use Rattle.satisfaction.proofs.Lowest.{lowest-end, lowest-fails, lowest-holds}
+use Rattle.satisfaction.proofs.rows_check.RowByRow.{Turn, judged, lent}
 use Rattle.satisfaction.proofs.sums.RunningSum.{Summed, fewer, summed-next, summed-none, summed-value}
 use Rattle.satisfaction.proofs.rows_check.lowest_between.Statement.{statement}
 use Rattle.satisfaction.proofs.rows_check.lowest_between.Tie as tie

@@ -72,7 +72,7 @@ loop-again c =
     let l = read .before .before .before in (
       omega arith,
       length-set (l .loop .words) (l .loop .j) _ ∙ l .loop .inv .1,
-      one-more (omega (arith, l .loop .inv .1)) (l .loop .inv .2) (read .read-word .ensures _ (c .before .x .given .1)),
+      one-more (omega (arith, l .loop .inv .1)) (l .loop .inv .2) (read .read-word .ensures .word _ (c .before .x .given .1)),
     )
 
 same-length-2 : tie.Need-same-length-2 Inv-loop μ-loop

@@ -3,7 +3,7 @@ use mathlib.Core.Path.{_≡_}
 use Prim.Native.Nat.{_-_, _≤_}
 use native.Mathlib.Omega.{arith}
 use borrow.Author.Needs.{needs}
-use Rattle.satisfaction.proofs.word_read.BitByBit.{no-bit, not-word, one-bit, room, word-read}
+use Rattle.satisfaction.proofs.word_read.BitByBit.{no-bit, no-word-read, one-bit, room, word-read}
 use Rattle.satisfaction.specs.Agrees.{BitsOf}
 use Rattle.satisfaction.proofs.word_read.reduced_word.Statement.{statement}
 use Rattle.satisfaction.proofs.word_read.reduced_word.Tie as tie
@@ -25,7 +25,9 @@ read-requires : tie.Need-read-requires Inv-loop μ-loop
 read-requires c κs = search needs
 
 returns : tie.Need-returns Inv-loop μ-loop
-returns c = λ x e. absurd (not-word x e)
+returns c =
+    let l = c .before .before .before in
+    no-word-read (l .before .loop .i) (omega arith) (omega (arith, c .before .read .ensures))
 
 mul-x : tie.Need-mul-x Inv-loop μ-loop
 mul-x c = omega (arith, room (c .before .before .before .loop-test .taken) (c .before .before .before .before .loop .inv .1))

@@ -27,7 +27,7 @@ returns-2 : tie.Need-returns-2
 returns-2 c = λ e. absurd (false≢true e)
 
 returns-3 : tie.Need-returns-3
-returns-3 c = λ e. agrees-as (ap wordWires (eqb-true _ _ e)) (bits-agree (c .before .before .before .reduced-word .ensures _ (c .before .y .given .1)))
+returns-3 c = λ e. agrees-as (ap wordWires (eqb-true _ _ e)) (bits-agree (c .before .before .before .reduced-word .ensures .word _ (c .before .y .given .1)))
 
 pub word-agrees-spec : {M : Type 1} → statement M
 word-agrees-spec =

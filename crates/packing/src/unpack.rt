@@ -1,0 +1,52 @@
+// Packed bytes as an assignment of 8-byte entries.
+ghost use mathlib.Core.Path.{_≡_};
+ghost use Prim.Native.Nat.{_+_, _*_, _≤_};
+ghost use lib.ListN.{length};
+ghost use Rattle.assignment.specs.Wrote.{Wrote};
+ghost use Rattle.encoding.specs.Bits.{bitOfBytes};
+ghost use Rattle.packing.specs.Unpack.{unpackAnswer, unpackLeft};
+use crate::pack::packed_length;
+use assignment::wires::put_entry;
+use assignment::wires::put_word;
+use circuit::wire::wire_count;
+use encoding::read::bit_at;
+use encoding::read::word_at;
+use refusal::numbers::WireNumber;
+use refusal::outcome::Outcome;
+use refusal::outcome::Refusal;
+use sm3::message::LONGEST;
+
+// The first words of packed bytes, 32 entries each.
+fn put_entries(packed: &[u8], words: usize, out: &mut [u8])
+    requires { ⌜ (4 * words ≤ length (now packed)) × (256 * words ≤ length (now out)) ⌝ }
+    ensures { λ _. ⌜ Wrote 0 (32 * words) (bitOfBytes (now (packed .entry))) (now (out .entry)) (now (out .exit)) ⌝ }
+{
+    for j in 0..words {
+        let x = word_at(packed, 4 * j);
+        put_word(out, WireNumber(32 * j as u64), x);
+    }
+}
+
+// The entries of packed bytes for records of `size` bytes, into the front of `out`.
+pub fn unpack(size: u64, packed: &[u8], out: &mut [u8]) -> Outcome
+    ensures { λ r. ⌜ r ≡ unpackAnswer size (now (packed .entry)) (length (now (out .entry))) ⌝ }
+    ensures { λ r. ⌜ now (out .exit) ≡ unpackLeft r size (now (packed .entry)) (now (out .entry)) ⌝ }
+{
+    if LONGEST < size {
+        return Outcome::Refused(Refusal::LengthAboveLimit);
+    }
+    let wires = wire_count(8 * size);
+    if (out.len() as u64) < 8 * wires {
+        return Outcome::Refused(Refusal::BufferTooShort);
+    }
+    if packed.len() as u64 != packed_length(wires) {
+        return Outcome::Refused(Refusal::WrongPackedLength);
+    }
+    let words = (wires / 32) as usize;
+    if packed[4 * words] % 128 != 0 {
+        return Outcome::Refused(Refusal::SpareBit);
+    }
+    put_entries(packed, words, out);
+    put_entry(out, WireNumber(wires - 1), bit_at(packed, wires - 1));
+    Outcome::Done
+}
