@@ -1,18 +1,19 @@
 -- Entries and their bytes: entry w is read from bytes 8 w to 8 w + 7 and from no others, and eight bytes read back the number
 -- below 2^64 that they were written from.
-use mathlib.Core.List.{List, _++_}
+use mathlib.Core.List.{List, [], _++_}
 use mathlib.Core.Logic.{by-cases}
-use mathlib.Core.Path.{_≡_, _∙_, ap, refl, sym}
-use Prim.Native.Nat.{ℕ, zero, suc, _+_, _*_, _%_, _^_, _<_}
+use mathlib.Core.Path.{_≡_, _∙_, ap, fun-ext, refl, subst, sym}
+use Prim.Native.Nat.{ℕ, zero, suc, _+_, _*_, _/_, _%_, _^_, _<_, _≤_}
 use native.Mathlib.Decide.{decLt}
 use native.Mathlib.Nat.{mod-eq-of-lt, mod-lt, zero-add}
 use native.Mathlib.Omega.{arith}
 use lib.Dec.{lit<}
-use lib.ListN.{List·getD-append, getD, length, length-append, take}
+use lib.ListN.{List·getD-append, List·getD-eq-default, getD, length, length-append, take}
 use lib.Seq.{getD-append-add, getD-take}
 use Rattle.assignment.specs.Assignment.{entry, entryBytes}
 use Rattle.encoding.proofs.Bytes.{from-bytes-congruent, from-least-first, length-least-first}
-use Rattle.encoding.specs.Bytes.{fromLeastFirst, leastFirst}
+use Rattle.encoding.proofs.Tab.{getD-tab}
+use Rattle.encoding.specs.Bytes.{Bytes, fromLeastFirst, leastFirst}
 use Rattle.field.specs.Field.{p}
 
 pub entry-lt : (bytes : List ℕ) (w : ℕ) → entry bytes w < p
@@ -51,6 +52,20 @@ byte-of-entry (suc n) s w i h l =
     ∙ getD-append-add (entryBytes n s) (leastFirst 8 (s n)) i 0
     ∙ ap (λ k. getD (leastFirst 8 (s k)) i 0) last)
 
+pub entries-bytes : (n : ℕ) (s : ℕ → ℕ) → Bytes (entryBytes n s)
+unfolding leastFirst
+entries-bytes n s k =
+    by-cases (decLt k (8 * n))
+    (λ l.
+    let place : 8 * (k / 8) + k % 8 ≡ k = omega arith in
+    subst (λ x. x < 256)
+    (sym
+    (ap (λ i. getD (entryBytes n s) i 0) (sym place)
+    ∙ byte-of-entry n s (k / 8) (k % 8) (omega arith) (omega arith)
+    ∙ getD-tab 8 _ (k % 8) 0 (omega arith)))
+    (mod-lt _ (lit< tt)))
+    (λ past. subst (λ x. x < 256) (sym (List·getD-eq-default (entryBytes n s) 0 (omega (arith, length-entries n s)))) (lit< tt))
+
 -- each reads back, whatever bytes follow
 pub entry-written : (n : ℕ) (s : ℕ → ℕ) (rest : List ℕ) (w : ℕ) → w < n → s w < 2 ^ 64
     → entry (entryBytes n s ++ rest) w ≡ s w % p
@@ -64,3 +79,19 @@ entry-written n s rest w h below =
     ∙ ap (λ k. getD (leastFirst 8 (s w)) k 0) (sym (zero-add i)))
     ∙ from-least-first 8 (s w)
     ∙ mod-eq-of-lt below)
+
+-- Past the last byte a wire reads as 0, so assignments of one length read the same everywhere if they do so at their wires.
+
+entry-past : (n : ℕ) (bytes : List ℕ) → length bytes ≡ 8 * n → (w : ℕ) → n ≤ w → entry bytes w ≡ 0
+unfolding entry fromLeastFirst
+entry-past n bytes long w past =
+    ap (λ x. x % p)
+    (from-bytes-congruent 8 bytes [] (8 * w) 0
+    (λ i l. List·getD-eq-default bytes 0 (omega arith)))
+
+pub entries-same : (n : ℕ) (a b : List ℕ) → length a ≡ 8 * n → length b ≡ 8 * n
+    → ((w : ℕ) → w < n → entry a w ≡ entry b w) → entry a ≡ entry b
+entries-same n a b la lb same =
+    fun-ext
+    (λ w.
+    by-cases (decLt w n) (same w) (λ past. entry-past n a la w (omega arith) ∙ sym (entry-past n b lb w (omega arith))))

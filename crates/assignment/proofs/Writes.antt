@@ -19,7 +19,7 @@ use Rattle.encoding.specs.Sequence.{beside, grid}
 -- The bytes of entries.
 
 -- only the first n values count
-entries-congruent : (n : ℕ) (s t : ℕ → ℕ) → ((k : ℕ) → k < n → s k ≡ t k) → entryBytes n s ≡ entryBytes n t
+pub entries-congruent : (n : ℕ) (s t : ℕ → ℕ) → ((k : ℕ) → k < n → s k ≡ t k) → entryBytes n s ≡ entryBytes n t
 unfolding entryBytes
 entries-congruent zero s t e = refl
 entries-congruent (suc n) s t e =
@@ -73,7 +73,7 @@ wrote-before {w} {n} {m} {s} {t} u e h h′ =
     }
 
 -- m places more of one sequence
-wrote-on : {w n m : ℕ} {s t : ℕ → ℕ} {l l′ l″ : List ℕ} (u : ℕ) → u ≡ w + n → ((k : ℕ) → k < m → t k ≡ s (n + k))
+pub wrote-on : {w n m : ℕ} {s t : ℕ → ℕ} {l l′ l″ : List ℕ} (u : ℕ) → u ≡ w + n → ((k : ℕ) → k < m → t k ≡ s (n + k))
     → Wrote w n s l l′ → Wrote u m t l′ l″ → Wrote w (n + m) s l l″
 wrote-on {w} {n} {m} {s} {t} u e more h h′ =
     wrote-same s

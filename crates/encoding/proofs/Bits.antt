@@ -4,7 +4,7 @@
 use mathlib.Core.List.{List}
 use mathlib.Core.Path.{_≡_, refl, sym, ap, ap₂, _∙_}
 use Prim.Native.Nat.{ℕ, zero, suc, _+_, _-_, _*_, _/_, _%_, _^_, _<_}
-use native.Mathlib.Nat.{add-suc, add-zero, div-one, le-refl, mod-eq-of-lt, mod-one, mul-assoc, mul-one, pow-suc}
+use native.Mathlib.Nat.{add-suc, add-zero, div-one, le-refl, mod-eq-of-lt, mod-one, mul-assoc, mul-one, pow-suc, zero-div}
 use native.Mathlib.Numerals.{add-one}
 use native.Mathlib.Omega.{arith}
 use lib.Arith.{digits-lt, digits-mod}
@@ -59,6 +59,17 @@ bit-of-number n b i h l =
     (ap (λ (k : ℕ). number k b) e ∙ number-split (suc i) rest b)
     ∙ ap (λ (y : ℕ). y % 2) (high (number (suc i) b) rest below)
     ∙ digits-mod (number i b) (h i l)
+
+-- a number is 0 where all its bits are, and only there
+pub number-zero : (n : ℕ) (b : ℕ → ℕ) → ((i : ℕ) → i < n → b i ≡ 0) → number n b ≡ 0
+unfolding number
+number-zero zero b h = refl
+number-zero (suc n) b h = omega (arith, number-zero n b (λ i l. h i (omega arith)), h n (omega arith))
+
+pub zero-bits : (n : ℕ) (b : ℕ → ℕ) → ((i : ℕ) → i < n → b i < 2) → number n b ≡ 0 → (i : ℕ) → i < n → b i ≡ 0
+zero-bits n b bits e i l =
+    sym (bit-of-number n b i bits l) ∙ ap (λ x. x / 2 ^ (n - 1 - i) % 2) e
+    ∙ ap (λ x. x % 2) (zero-div (2 ^ (n - 1 - i)))
 
 -- Bytes.
 

@@ -1,6 +1,6 @@
 -- Bytes and their bits. Eight bits write a byte and are read off it again, so the bytes of some bits have those bits, and
 -- bytes that have the same bits are the same.
-use mathlib.Core.List.{List}
+use mathlib.Core.List.{List, _++_}
 use mathlib.Core.Logic.{by-cases}
 use mathlib.Core.Path.{_≡_, _∙_, ap, subst, sym}
 use Prim.Native.Nat.{ℕ, _+_, _-_, _*_, _/_, _%_, _^_, _<_}
@@ -11,7 +11,7 @@ use lib.Dec.{lit<}
 use lib.ListN.{List·getD-eq-default, length}
 use lib.Seq.{ext-getD}
 use Rattle.encoding.proofs.Bits.{bit-of-byte, bit-of-number, number-cong, number-lt, number-of-byte}
-use Rattle.encoding.proofs.Tab.{getD-tab, length-tab, tab-congruent}
+use Rattle.encoding.proofs.Tab.{getD-tab, length-tab, tab-add, tab-congruent}
 use Rattle.encoding.specs.Bits.{bitOfBytes, bytesOfBits, number}
 use Rattle.encoding.specs.Bytes.{Bytes}
 use Rattle.encoding.specs.Sequence.{tab}
@@ -54,3 +54,16 @@ pub bytes-of-bits-congruent : (n : ℕ) (b c : ℕ → ℕ) → ((k : ℕ) → k
 unfolding bytesOfBits
 bytes-of-bits-congruent n b c same =
     tab-congruent n _ _ (λ k l. number-cong 8 _ _ (λ i h. same (8 * k + i) (omega arith)))
+
+-- n bytes, then m more
+pub bytes-of-bits-add : (n m : ℕ) (b : ℕ → ℕ) → bytesOfBits (n + m) b ≡ bytesOfBits n b ++ bytesOfBits m (λ k. b (8 * n + k))
+unfolding bytesOfBits
+bytes-of-bits-add n m b =
+    tab-add n m _
+    ∙ ap (λ l. bytesOfBits n b ++ l)
+    (tab-congruent m _ _
+    (λ k l.
+    number-cong 8 _ _
+    (λ i h.
+    let place : 8 * (n + k) + i ≡ 8 * n + (8 * k + i) = omega arith in
+    ap b place)))

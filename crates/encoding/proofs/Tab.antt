@@ -1,10 +1,10 @@
 -- `tab n f` is the list of f 0 to f (n - 1). It grows at its end, so its first m places are `tab m f`, and what stands at a
 -- place is the last one of such a shorter list.
-use mathlib.Core.List.{List, [], _∷_, _++_}
+use mathlib.Core.List.{List, [], _∷_, _++_, append-assoc, append-nil}
 use mathlib.Core.Path.{_≡_, refl, sym, ap, ap₂, _∙_}
-use Prim.Native.Nat.{ℕ, zero, suc, _≤_, _<_}
+use Prim.Native.Nat.{ℕ, zero, suc, _+_, _≤_, _<_}
 use native.Mathlib.Decide.{le-ind}
-use native.Mathlib.Nat.{le-of-eq}
+use native.Mathlib.Nat.{add-suc, add-zero, le-of-eq}
 use native.Mathlib.Omega.{arith}
 use lib.ListN.{length, getD, take, length-append}
 use lib.Seq.{getD-at, getD-take, take-all, take-append-le}
@@ -36,3 +36,12 @@ module _ {A : Type 0} where
   tab-congruent zero f g e = refl
   tab-congruent (suc n) f g e =
       ap₂ (λ l x. l ++ (x ∷ [])) (tab-congruent n f g (λ k h. e k (omega arith))) (e n (omega arith))
+
+  -- the first n places, then m more
+  pub tab-add : (n m : ℕ) (f : ℕ → A) → tab (n + m) f ≡ tab n f ++ tab m (λ k. f (n + k))
+  unfolding tab
+  tab-add n zero f = ap (λ k. tab k f) (add-zero n) ∙ sym (append-nil (tab n f))
+  tab-add n (suc m) f =
+      ap (λ k. tab k f) (add-suc n m)
+      ∙ ap (λ l. l ++ (f (n + m) ∷ [])) (tab-add n m f)
+      ∙ append-assoc (tab n f) (tab m (λ k. f (n + k))) (f (n + m) ∷ [])

@@ -1,3 +1,5 @@
 pub mod Pack
 pub mod Packed
+pub mod PackedCheck
+pub mod RoundTrip
 pub mod Unpack

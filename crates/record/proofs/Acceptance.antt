@@ -45,14 +45,14 @@ same-iff (suc n) f g = (
 )
 
 -- a test that refuses where P does not hold
-not-iff : (t : Bool) {P : Type 0} → (t ≡ true) ↔ P → (not t ≡ false) ↔ P
+pub not-iff : (t : Bool) {P : Type 0} → (t ≡ true) ↔ P → (not t ≡ false) ↔ P
 not-iff t h = Iff·trans (not-false t, ap not) h
 
-equal-iff : (x y : ℕ) → (not (eqb x y) ≡ false) ↔ (x ≡ y)
+pub equal-iff : (x y : ℕ) → (not (eqb x y) ≡ false) ↔ (x ≡ y)
 equal-iff x y = not-iff (eqb x y) (eqb-true x y, eq-eqb x y)
 
 -- another answer than the test's own comes from what follows, past the test
-past : (t : Bool) {P Q : Type 0} (x y z : Outcome) → (t ≡ false) ↔ P → (outcomeNumber x ≡ outcomeNumber z → ⊥)
+pub past : (t : Bool) {P Q : Type 0} (x y z : Outcome) → (t ≡ false) ↔ P → (outcomeNumber x ≡ outcomeNumber z → ⊥)
     → (y ≡ z) ↔ Q → (cond t x y ≡ z) ↔ (P × Q)
 past true x y z test other next = (λ e. absurd (other (ap outcomeNumber e)), λ h. absurd (true≢false (test .1 (h .0))))
 past false x y z test other next = (λ e. (test .0 refl, next .0 e), λ h. next .1 (h .1))

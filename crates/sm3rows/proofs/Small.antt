@@ -1,27 +1,30 @@
--- The operations' answers have room in one number. A row that is given is one of the record's, and no row has over 163
--- terms; a row that the check names is below the row count, and no record that the check takes has over 16 blocks.
+-- The operations' answers have room in one number. Most refusals have no value. A row that is given is one of the record's, and no row has
+-- over 163 terms; a row or a wire that is named is below the count, and no record that is in range has over 16 blocks.
 use mathlib.Core.Bool.{Bool, cond, false, true}
 use mathlib.Core.List.{List}
 use mathlib.Core.Path.{_≡_, refl}
-use Prim.Native.Nat.{ℕ, _*_, _<_, _^_}
+use Prim.Native.Nat.{ℕ, _+_, _*_, _<_, _≤_, _^_}
 use native.Mathlib.Omega.{arith}
-use borrow.Author.Tests.{leb-false}
+use borrow.Author.Tests.{leb-false, ltb-false}
 use lib.Dec.{leb, lit<, ltb}
 use lib.ListN.{length-append}
-use Rattle.record.proofs.Acceptance.{in-range, unsatisfied-lowest}
-use Rattle.record.specs.Check.{checkAnswer}
 use Rattle.circuit.proofs.shape.Shape.{shape}
 use Rattle.circuit.specs.Circuit.{rowAt}
 use Rattle.circuit.specs.Places.{rowCount}
-use Rattle.record.specs.RowAnswer.{counted, rowAnswer, rowBytes}
+use Rattle.circuit.specs.Wires.{wireCount}
+use Rattle.encoding.proofs.Lowest.{by-lowest}
 use Rattle.forms.specs.Rows.{terms}
+use Rattle.packing.specs.Pack.{bitsAnswer, packAnswer}
+use Rattle.packing.specs.Unpack.{packedAnswer, unpackAnswer}
+use Rattle.record.specs.Check.{afterRows, checkAnswer}
+use Rattle.record.specs.Produce.{produceAnswer}
+use Rattle.record.specs.RowAnswer.{counted, rowAnswer, rowBytes}
 use Rattle.record.specs.declared.row.RowAnswer.{RowAnswer}
-use Rattle.record.specs.declared.row.RowAnswer.the-variants.{Refused as RowRefused}
 use Rattle.refusal.specs.Packing.{above}
 use Rattle.refusal.specs.Refusals.{outcomeValues}
 use Rattle.refusal.specs.declared.outcome.Outcome.{Outcome}
-use Rattle.refusal.specs.declared.outcome.Outcome.the-variants.{Done, Refused}
-use Rattle.refusal.specs.declared.outcome.Refusal.the-variants.{LengthAboveLimit, RowOutOfRange, BufferTooShort, DigestNot32, WrongLength, WireZero, DigestWire, Unsatisfied}
+use Rattle.satisfaction.specs.Lowest.{lowest}
+use Rattle.sm3.specs.Digest.{digestAnswer}
 use Rattle.sm3.specs.Message.{blocks, longest}
 use Rattle.sm3rows.specs.Small.{SmallRow}
 
@@ -29,11 +32,16 @@ use Rattle.sm3rows.specs.Small.{SmallRow}
 abbrev pub Small : Outcome → Type 0
 Small o = above (outcomeValues o) < 2 ^ 56
 
--- two tests, whose refusals have no values
-pub two-tests : (s t : Bool) → Small (cond s (Refused LengthAboveLimit) (cond t (Refused BufferTooShort) Done))
-two-tests true t = lit< tt
-two-tests false true = lit< tt
-two-tests false false = lit< tt
+-- what holds of a test's own answer and, where the test is passed, of what follows, holds of the answer
+tested : {A : Type 0} (P : A → Type 0) (t : Bool) {x y : A} → P x → (t ≡ false → P y) → P (cond t x y)
+tested P true px py = px
+tested P false px py = py refl
+
+pub digest-small : (size room : ℕ) → Small (digestAnswer size room)
+digest-small size room = tested Small _ (lit< tt) (λ _. tested Small _ (lit< tt) (λ _. lit< tt))
+
+pub produce-small : (size room : ℕ) → Small (produceAnswer size room)
+produce-small size room = tested Small _ (lit< tt) (λ _. tested Small _ (lit< tt) (λ _. lit< tt))
 
 counts-small : (size k : ℕ) → k < rowCount (8 * size) → SmallRow (counted (rowAt (8 * size) k))
 unfolding counted terms
@@ -41,35 +49,41 @@ counts-small size k below =
     let few = simp length-append at (shape (8 * size) k below .few) in
     (omega arith, omega arith, omega arith)
 
--- a row is given only past the three tests, and the refusals have no values
-past-tests : (s t u : Bool) (y : RowAnswer) → (t ≡ false → SmallRow y)
-    → SmallRow (cond s (RowRefused LengthAboveLimit) (cond t (RowRefused RowOutOfRange) (cond u (RowRefused BufferTooShort) y)))
-past-tests true t u y h = lit< tt
-past-tests false true u y h = lit< tt
-past-tests false false true y h = lit< tt
-past-tests false false false y h = h refl
-
 pub row-small : (size k room : ℕ) → SmallRow (rowAnswer size k room)
 unfolding rowAnswer
 row-small size k room =
-    past-tests (ltb longest size) (leb (rowCount (8 * size)) k) (ltb room rowBytes) (counted (rowAt (8 * size) k))
-    (λ e. counts-small size k (leb-false (rowCount (8 * size)) k e))
+    tested SmallRow (ltb longest size) (lit< tt)
+    (λ _.
+    tested SmallRow (leb (rowCount (8 * size)) k) (lit< tt)
+    (λ e. tested SmallRow (ltb room rowBytes) (lit< tt) (λ _. counts-small size k (leb-false (rowCount (8 * size)) k e))))
 
-module _ (L : ℕ) (d a : List ℕ) where
-  named-small : (o : Outcome) → checkAnswer L d a ≡ o → Small o
-  unfolding rowCount blocks
-  named-small Done e = lit< tt
-  named-small (Refused LengthAboveLimit) e = lit< tt
-  named-small (Refused RowOutOfRange) e = lit< tt
-  named-small (Refused BufferTooShort) e = lit< tt
-  named-small (Refused DigestNot32) e = lit< tt
-  named-small (Refused WrongLength) e = lit< tt
-  named-small (Refused WireZero) e = lit< tt
-  named-small (Refused DigestWire) e = lit< tt
-  named-small (Refused (Unsatisfied k)) e =
-      let below = unsatisfied-lowest L d a k e .below in
-      let range = in-range L d a k e in
-      omega arith
+rows-small : (L : ℕ) (a : ℕ → ℕ) → L ≤ longest → Small (afterRows (lowest a (rowAt (8 * L)) 0 (rowCount (8 * L))))
+unfolding lowest rowCount blocks
+rows-small L a range =
+    by-lowest _ _ (λ v. Small (afterRows v)) _ 0 (rowCount (8 * L)) (λ _. lit< tt) (λ j low. omega (arith, low .below))
 
-  pub check-small : Small (checkAnswer L d a)
-  check-small = named-small (checkAnswer L d a) refl
+pub check-small : (L : ℕ) (d a : List ℕ) → Small (checkAnswer L d a)
+unfolding checkAnswer
+check-small L d a =
+    tested Small (ltb longest L) (lit< tt)
+    (λ e.
+    tested Small _ (lit< tt)
+    (λ _.
+    tested Small _ (lit< tt)
+    (λ _. tested Small _ (lit< tt) (λ _. tested Small _ (lit< tt) (λ _. rows-small L _ (ltb-false longest L e))))))
+
+bits-small : (L : ℕ) (a : List ℕ) → L ≤ longest → Small (bitsAnswer a 0 (wireCount (8 * L)))
+unfolding bitsAnswer wireCount blocks
+bits-small L a range = by-lowest _ _ Small _ 0 (wireCount (8 * L)) (λ _. lit< tt) (λ j low. omega (arith, low .below))
+
+pub pack-small : (L : ℕ) (a : List ℕ) (room : ℕ) → Small (packAnswer L a room)
+unfolding packAnswer
+pack-small L a room =
+    tested Small (ltb longest L) (lit< tt)
+    (λ e. tested Small _ (lit< tt) (λ _. tested Small _ (lit< tt) (λ _. bits-small L a (ltb-false longest L e))))
+
+pub unpack-small : (L : ℕ) (p : List ℕ) (room : ℕ) → Small (unpackAnswer L p room)
+unfolding unpackAnswer packedAnswer
+unpack-small L p room =
+    tested Small _ (lit< tt)
+    (λ _. tested Small _ (lit< tt) (λ _. tested Small _ (lit< tt) (λ _. tested Small _ (lit< tt) (λ _. lit< tt))))

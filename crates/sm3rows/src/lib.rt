@@ -1,7 +1,9 @@
-// The four operations for a C host: each takes numbers and byte slices and answers one 64-bit number, whose low byte is
+// The operations for a C host: each takes numbers and byte slices and answers one 64-bit number, whose low byte is
 // the refusal's number and which has the values above it (docs/HOST.md).
 ghost use mathlib.Core.Path.{_≡_};
 ghost use lib.ListN.{length};
+ghost use Rattle.packing.specs.Pack.{packAnswer, packLeft};
+ghost use Rattle.packing.specs.Unpack.{unpackAnswer, unpackLeft};
 ghost use Rattle.record.specs.Check.{checkAnswer};
 ghost use Rattle.record.specs.Produce.{produceAnswer, produceLeft};
 ghost use Rattle.record.specs.RowAnswer.{rowAnswer, rowLeft};
@@ -58,4 +60,22 @@ pub extern "C" fn sm3rows_check(size: u64, digest: &[u8], assignment: &[u8]) -> 
     ensures { λ r. ⌜ r ≡ packedOutcome (checkAnswer size (now (digest .entry)) (now (assignment .entry))) ⌝ }
 {
     pack_outcome(record::check::check(size, digest, assignment))
+}
+
+// An assignment for records of `size` bytes, packed a bit a wire into the front of `out`.
+#[no_mangle]
+pub extern "C" fn sm3rows_pack(size: u64, assignment: &[u8], out: &mut [u8]) -> u64
+    ensures { λ r. ⌜ r ≡ packedOutcome (packAnswer size (now (assignment .entry)) (length (now (out .entry)))) ⌝ }
+    ensures { λ r. ⌜ now (out .exit) ≡ packLeft (packAnswer size (now (assignment .entry)) (length (now (out .entry)))) size (now (assignment .entry)) (now (out .entry)) ⌝ }
+{
+    pack_outcome(packing::pack::pack(size, assignment, out))
+}
+
+// Packed bytes for records of `size` bytes as 8-byte entries, into the front of `out`.
+#[no_mangle]
+pub extern "C" fn sm3rows_unpack(size: u64, packed: &[u8], out: &mut [u8]) -> u64
+    ensures { λ r. ⌜ r ≡ packedOutcome (unpackAnswer size (now (packed .entry)) (length (now (out .entry)))) ⌝ }
+    ensures { λ r. ⌜ now (out .exit) ≡ unpackLeft (unpackAnswer size (now (packed .entry)) (length (now (out .entry)))) size (now (packed .entry)) (now (out .entry)) ⌝ }
+{
+    pack_outcome(packing::unpack::unpack(size, packed, out))
 }

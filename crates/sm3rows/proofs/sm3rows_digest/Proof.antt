@@ -1,11 +1,8 @@
 -- The operation's own answer, put into its number; the bytes are those that the operation leaves.
 use borrow.Author.Needs.{needs}
 use mathlib.Core.Path.{ap, subst, sym, _∙_}
-use lib.Dec.{ltb}
-use lib.ListN.{length}
-use Rattle.sm3.specs.Message.{longest}
 use Rattle.refusal.specs.Packing.{packedOutcome}
-use Rattle.sm3rows.proofs.Small.{Small, two-tests}
+use Rattle.sm3rows.proofs.Small.{Small, digest-small}
 use Rattle.sm3rows.proofs.sm3rows_digest.Statement.{statement}
 use Rattle.sm3rows.proofs.sm3rows_digest.Tie as tie
 
@@ -13,9 +10,7 @@ digest-requires : tie.Need-digest-requires
 digest-requires c κs = search needs
 
 pack-outcome-requires : tie.Need-pack-outcome-requires
-pack-outcome-requires c κs =
-    let a = c .before .before .before .before .before .before .args in
-    subst Small (sym (c .before .before .digest .ensures .0)) (two-tests (ltb longest (length (a .bytes .now))) (ltb (length (a .out .now)) 32))
+pack-outcome-requires c κs = subst Small (sym (c .before .before .digest .ensures .0)) (digest-small _ _)
 
 same-length : tie.Need-same-length
 same-length c = search needs

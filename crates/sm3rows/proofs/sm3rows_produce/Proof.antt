@@ -1,13 +1,8 @@
 -- The operation's own answer, put into its number; the bytes are those that the operation leaves.
 use borrow.Author.Needs.{needs}
 use mathlib.Core.Path.{ap, subst, sym, _∙_}
-use Prim.Native.Nat.{_*_}
-use lib.Dec.{ltb}
-use lib.ListN.{length}
-use Rattle.sm3.specs.Message.{longest}
-use Rattle.circuit.specs.Wires.{wireCount}
 use Rattle.refusal.specs.Packing.{packedOutcome}
-use Rattle.sm3rows.proofs.Small.{Small, two-tests}
+use Rattle.sm3rows.proofs.Small.{Small, produce-small}
 use Rattle.sm3rows.proofs.sm3rows_produce.Statement.{statement}
 use Rattle.sm3rows.proofs.sm3rows_produce.Tie as tie
 
@@ -15,9 +10,7 @@ produce-requires : tie.Need-produce-requires
 produce-requires c κs = search needs
 
 pack-outcome-requires : tie.Need-pack-outcome-requires
-pack-outcome-requires c κs =
-    let a = c .before .before .before .before .before .before .args in
-    subst Small (sym (c .before .before .produce .ensures .0)) (two-tests (ltb longest (length (a .bytes .now))) (ltb (length (a .out .now)) (8 * wireCount (8 * length (a .bytes .now)))))
+pack-outcome-requires c κs = subst Small (sym (c .before .before .produce .ensures .0)) (produce-small _ _)
 
 same-length : tie.Need-same-length
 same-length c = search needs

@@ -1,43 +1,43 @@
+-- Before each turn all wires from `from` on and below wire w are bits, so the answer is that of the wires from w on.
+use mathlib.Core.Path.{_≡_, _∙_, refl, sym}
+use Prim.Native.Nat.{_-_, _≤_}
+use native.Mathlib.Omega.{arith}
 use borrow.Author.Needs.{needs}
+use Rattle.packing.proofs.pack.EntriesAsked.{bit-fails, bit-holds, bits-end}
+use Rattle.packing.specs.Pack.{bitsAnswer}
 use Rattle.packing.proofs.pack.bits_between.Statement.{statement}
 use Rattle.packing.proofs.pack.bits_between.Tie as tie
-use Rattle.packing.proofs.pack.bits_between.Reads as reads
-use Rattle.packing.proofs.pack.bits_between.Lts as lts
-use Rattle.assignment.proofs.entry.read.Reads as read-reads
 
 abbrev Inv-loop : tie.InvT-loop
-Inv-loop assignment from to w₀ w = ?
+Inv-loop assignment from to w₀ w = (w ≤ to) × (bitsAnswer assignment from (to - from) ≡ bitsAnswer assignment w (to - w))
 
 abbrev μ-loop : tie.MeasureT-loop
-μ-loop assignment from to w₀ w = ?
+μ-loop assignment from to w₀ w = to - w
 
--- src/pack.rt:35:5
 loop-holds : tie.Need-loop-holds Inv-loop μ-loop
-loop-holds c = search needs
+loop-holds c = (omega arith, refl)
 
--- src/pack.rt:36:16
 read-requires : tie.Need-read-requires Inv-loop μ-loop
 read-requires c κs = search needs
 
--- src/pack.rt:37:13
 returns : tie.Need-returns Inv-loop μ-loop
-returns c = search needs
+returns c =
+    let turn = c .before .before .before in
+    sym (turn .loop .inv .1 ∙ bit-fails _ _ _ (omega arith) (omega (arith, c .before .read .ensures)))
 
--- src/pack.rt:35:9
 add-w : tie.Need-add-w Inv-loop μ-loop
 add-w c = search needs
 
--- src/pack.rt:35:5
 loop-less : tie.Need-loop-less Inv-loop μ-loop
 loop-less c = search needs
 
--- src/pack.rt:35:5
 loop-again : tie.Need-loop-again Inv-loop μ-loop
-loop-again c = search needs
+loop-again c =
+    let turn = c .before .before .before in
+    (omega arith, turn .loop .inv .1 ∙ bit-holds _ _ _ (omega arith) (omega (arith, c .before .read .ensures)))
 
--- src/pack.rt:31:1
 returns-2 : tie.Need-returns-2 Inv-loop μ-loop
-returns-2 c = search needs
+returns-2 c = sym (c .before .loop .inv .1 ∙ bits-end _ _ _ (omega arith))
 
 pub bits-between-spec : {M : Type 1} → statement M
 bits-between-spec =

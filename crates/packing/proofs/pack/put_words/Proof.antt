@@ -1,56 +1,63 @@
+-- Before turn j the first j words are packed; a turn writes the next four bytes.
+use mathlib.Core.Path.{_≡_}
+use Prim.Native.Nat.{_-_, _*_, _≤_}
+use native.Mathlib.Omega.{arith}
 use borrow.Author.Needs.{needs}
+use Rattle.assignment.specs.Assignment.{entry}
+use Rattle.encoding.proofs.ByteBits.{length-bytes-of-bits}
+use Rattle.encoding.proofs.Written.{length-written, written-as, written-none, written-then}
+use Rattle.encoding.specs.Bits.{bytesOfBits}
+use Rattle.encoding.specs.Sequence.{tab}
+use Rattle.encoding.specs.Written.{Written}
+use Rattle.packing.proofs.WordBytes.{one-word-more}
 use Rattle.packing.proofs.pack.put_words.Statement.{statement}
 use Rattle.packing.proofs.pack.put_words.Tie as tie
-use Rattle.packing.proofs.pack.put_words.Reads as reads
-use Rattle.packing.proofs.pack.put_words.Lts as lts
-use Rattle.encoding.proofs.write.put_word.Reads as put-word-reads
-use Rattle.packing.proofs.pack.word_of.Reads as word-of-reads
 
 abbrev Inv-loop : tie.InvT-loop
-Inv-loop assignment words out₀ j₀ out j = ?
+Inv-loop assignment words out₀ j₀ out j = (j ≤ words) × Written 0 (bytesOfBits (4 * j) (entry assignment)) out₀ out
 
 abbrev μ-loop : tie.MeasureT-loop
-μ-loop assignment words out₀ j₀ out j = ?
+μ-loop assignment words out₀ j₀ out j = words - j
 
--- src/pack.rt:85:5
 loop-holds : tie.Need-loop-holds Inv-loop μ-loop
-loop-holds c = search needs
+unfolding bytesOfBits tab
+loop-holds c = (omega arith, written-none _ _)
 
--- src/pack.rt:86:48
 mul-t8 : tie.Need-mul-t8 Inv-loop μ-loop
 mul-t8 c = search needs
 
--- src/pack.rt:86:13
 word-of-requires : tie.Need-word-of-requires Inv-loop μ-loop
-word-of-requires c κs = search needs
+word-of-requires c κs = (omega arith, λ i l. c .before .before .before .before .pre .2 _ (omega arith))
 
--- src/pack.rt:87:23
 mul-put-word : tie.Need-mul-put-word Inv-loop μ-loop
 mul-put-word c = search needs
 
--- src/pack.rt:87:9
 put-word-requires : tie.Need-put-word-requires Inv-loop μ-loop
-put-word-requires c κs = search needs
+put-word-requires c κs = omega (arith, length-written (c .before .before .before .loop .inv .1))
 
--- src/pack.rt:85:9
 add-j : tie.Need-add-j Inv-loop μ-loop
 add-j c = search needs
 
--- src/pack.rt:85:5
 loop-less : tie.Need-loop-less Inv-loop μ-loop
 loop-less c = search needs
 
--- src/pack.rt:85:5
 loop-again : tie.Need-loop-again Inv-loop μ-loop
-loop-again c = search needs
+loop-again c =
+    let l = c .before .before .before .before .before .before in
+    let entries = entry (l .before .before .before .args .assignment .now) in
+    let j = l .loop .j in (
+      omega arith,
+      written-as (one-word-more entries j _ (λ k h. l .before .before .before .pre .2 _ (omega arith)) (c .before .before .before .before .word-of .ensures))
+          (written-then (4 * j) (omega (arith, length-bytes-of-bits (4 * j) entries)) (l .loop .inv .1) (c .before .before .put-word .ensures)),
+    )
 
--- src/pack.rt:81:1
 same-length : tie.Need-same-length Inv-loop μ-loop
-same-length c = search needs
+same-length c = length-written (c .before .loop .inv .1)
 
--- src/pack.rt:81:1
 returns : tie.Need-returns Inv-loop μ-loop
-returns c = search needs
+returns c =
+    let all : c .before .loop .j ≡ c .before .before .before .before .args .words = omega arith in
+    rw all at (c .before .loop .inv .1)
 
 pub put-words-spec : {M : Type 1} → statement M
 put-words-spec =

@@ -1,0 +1,69 @@
+-- Refusal 10 is looked for from wire 0 on, and the answer about some wires is that about all where it is a refusal; else the wires
+-- after them decide. So words may be passed by whose 32 wires are bits.
+use mathlib.Core.Bool.{false, true}
+use mathlib.Core.List.{List}
+use mathlib.Core.Path.{_≡_, _∙_, sym}
+use Prim.Native.Nat.{ℕ, _+_, _-_, _≤_, _<_}
+use native.Mathlib.Omega.{arith}
+use borrow.Author.Tests.{le-ltb, lt-ltb, ltb-true}
+use lib.Dec.{ltb}
+use Rattle.assignment.specs.Assignment.{entry}
+use Rattle.encoding.proofs.Lowest as failing
+use Rattle.packing.specs.Pack.{bitsAnswer}
+use Rattle.refusal.specs.declared.outcome.Outcome.the-variants.{Done, Refused}
+use Rattle.refusal.specs.declared.outcome.Outcome.{Outcome}
+use Rattle.refusal.specs.declared.outcome.Refusal.the-variants.{EntryNotBit}
+use Rattle.refusal.specs.declared.outcome.Refusal.{Refusal}
+
+-- a refusal is not `Done`
+pub refused-done : (r : Refusal) → Refused r ≡ Done → ⊥
+refused-done r e =
+    let z : _≡_ {A = ℕ} 0 1 = cc in
+    omega arith
+
+apart : (w : ℕ) → Refused (EntryNotBit (record { 0 = w })) ≡ Done → ⊥
+apart w = refused-done _
+
+module _ (bytes : List ℕ) where
+  -- all wires are bits
+  pub bits-done : (k m : ℕ) → ((i : ℕ) → i < m → entry bytes (k + i) < 2) → bitsAnswer bytes k m ≡ Done
+  unfolding bitsAnswer
+  bits-done k m bits =
+      failing.lowest-none _ _ Done k m
+      (λ i l h.
+      let place : k + (i - k) ≡ i = omega arith in
+      lt-ltb _ 2 (rw place at (bits (i - k) (omega arith))))
+
+  pub done-bits : (m : ℕ) → bitsAnswer bytes 0 m ≡ Done → (w : ℕ) → w < m → entry bytes w < 2
+  unfolding bitsAnswer
+  done-bits m e w l = ltb-true (entry bytes w) 2 (failing.none-all _ _ Done apart 0 m e w (omega arith) (omega arith))
+
+  -- Of the wires from k on and below n.
+  module _ (n k : ℕ) where
+    pub bits-end : n ≤ k → bitsAnswer bytes k (n - k) ≡ Done
+    unfolding bitsAnswer
+    bits-end = failing.lowest-end _ _ Done n k
+
+    -- wire k
+    module _ (l : k < n) where
+      pub bit-holds : entry bytes k < 2 → bitsAnswer bytes k (n - k) ≡ bitsAnswer bytes (k + 1) (n - (k + 1))
+      unfolding bitsAnswer
+      bit-holds h = failing.lowest-holds _ _ Done n k l (lt-ltb (entry bytes k) 2 h)
+
+      pub bit-fails : 1 < entry bytes k → bitsAnswer bytes k (n - k) ≡ Refused (EntryNotBit (record { 0 = k }))
+      unfolding bitsAnswer
+      bit-fails h = failing.lowest-fails _ _ Done n k l (le-ltb (entry bytes k) 2 h)
+
+    -- the m wires from k on, of which the answer is r
+    module _ (m : ℕ) (l : k + m ≤ n) (r : Outcome) (is : r ≡ bitsAnswer bytes k m) where
+      pub bits-past : r ≡ Done → bitsAnswer bytes k (n - k) ≡ bitsAnswer bytes (k + m) (n - (k + m))
+      unfolding bitsAnswer
+      bits-past e = failing.lowest-past _ _ Done n k m l (failing.none-all _ _ Done apart k m (sym is ∙ e))
+
+      pub bits-refused : (refusal : Refusal) → r ≡ Refused refusal → bitsAnswer bytes k (n - k) ≡ Refused refusal
+      unfolding bitsAnswer
+      bits-refused refusal e =
+          failing.lowest-parted _ _ Done n k m l
+          ∙ failing.lowest-among _ _ Done apart k m _ (λ none. refused-done refusal (sym e ∙ is ∙ none))
+          ∙ sym is
+          ∙ e
