@@ -1,6 +1,7 @@
 -- The operation's own answer, put into its number; the bytes are those that the operation leaves.
 use borrow.Author.Needs.{needs}
 use mathlib.Core.Path.{ap, subst, sym, _∙_}
+use lib.ListN.{length}
 use Rattle.refusal.specs.Packing.{packedOutcome}
 use Rattle.sm3rows.proofs.Small.{Small, digest-small}
 use Rattle.sm3rows.proofs.sm3rows_digest.Statement.{statement}
@@ -10,7 +11,9 @@ digest-requires : tie.Need-digest-requires
 digest-requires c κs = search needs
 
 pack-outcome-requires : tie.Need-pack-outcome-requires
-pack-outcome-requires c κs = subst Small (sym (c .before .before .digest .ensures .0)) (digest-small _ _)
+pack-outcome-requires c κs =
+    let a = c .before .before .before .before .before .before .args in
+    subst Small (sym (c .before .before .digest .ensures .0)) (digest-small (length (a .bytes .now)) (length (a .out .now))) .room
 
 same-length : tie.Need-same-length
 same-length c = search needs
