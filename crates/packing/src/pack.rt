@@ -1,6 +1,7 @@
 // An assignment packed, a bit a wire. The wires of a record are words of 32 and one wire more.
+ghost use mathlib.Core.Bool.{true};
 ghost use mathlib.Core.Path.{_≡_};
-ghost use Prim.Native.Nat.{ℕ, _+_, _-_, _*_, _%_, _<_, _≤_};
+ghost use Prim.Native.Nat.{ℕ, _+_, _-_, _*_, _/_, _%_, _<_, _≤_};
 ghost use lib.ListN.{length};
 ghost use Rattle.assignment.specs.Assignment.{entry};
 ghost use Rattle.circuit.specs.Ranges.{mostWires};
@@ -8,6 +9,7 @@ ghost use Rattle.encoding.specs.Bits.{bytesOfBits, number};
 ghost use Rattle.encoding.specs.Written.{Written};
 ghost use Rattle.packing.specs.Pack.{bitsAnswer, packAnswer, packLeft};
 ghost use Rattle.packing.specs.Packed.{packedBytes, packedLength};
+ghost use Rattle.satisfaction.specs.Agrees.{Stand};
 use assignment::entry::read;
 use circuit::wire::wire_count;
 use encoding::write::put_word;
@@ -15,8 +17,9 @@ use refusal::numbers::WireNumber;
 use refusal::outcome::Outcome;
 use refusal::outcome::Refusal;
 use satisfaction::word_read::WordRead;
-use satisfaction::word_read::read_standing;
-use satisfaction::word_read::read_word;
+use satisfaction::word_read::number_from;
+use satisfaction::word_read::reduced_word;
+use satisfaction::word_read::seen_from;
 use sm3::message::LONGEST;
 
 // How many bytes so many wires are packed into.
@@ -40,61 +43,63 @@ fn bits_between(assignment: &[u8], from: u64, to: u64) -> Outcome
     Outcome::Done
 }
 
-// The same for the 32 wires from w on. Where all of them stand as 0 and 1, as in an honest assignment, none is reduced.
-fn bits_in_word(assignment: &[u8], w: u64) -> Outcome
-    requires { ⌜ 8 * (w + 32) ≤ length (now assignment) ⌝ }
-    ensures { λ r. ⌜ r ≡ bitsAnswer (now (assignment .entry)) w 32 ⌝ }
+// Whether the entries of the first words stand as 0 and 1, as in an honest assignment, so that none has to be reduced.
+fn words_stand(assignment: &[u8], words: u64) -> bool
+    requires { ⌜ 256 * words ≤ length (now assignment) ⌝ }
+    ensures { λ r. ⌜ (r ≡ true → Stand 0 (32 * words) (now (assignment .entry))) ⌝ }
 {
-    if read_standing(assignment, WireNumber(w)).seen < 2 {
-        return Outcome::Done;
-    }
-    bits_between(assignment, w, w + 32)
-}
-
-// The same for all wires.
-fn bits_in_all(assignment: &[u8], wires: u64) -> Outcome
-    requires { ⌜ 8 * wires ≤ length (now assignment) ⌝ }
-    ensures { λ r. ⌜ r ≡ bitsAnswer (now (assignment .entry)) 0 wires ⌝ }
-{
-    let words = wires / 32;
     for j in 0..words {
-        let answer = bits_in_word(assignment, 32 * j);
-        if let Outcome::Refused(refusal) = answer {
-            return Outcome::Refused(refusal);
+        if 1 < seen_from(assignment, WireNumber(32 * j)) {
+            return false;
         }
     }
-    bits_between(assignment, 32 * words, wires)
+    true
+}
+
+// Refusal 10 for the lowest of all wires that reads neither 0 nor 1, if there is one. Where the words stand as 0 and 1, only the
+// wire behind them is left to be read.
+fn bits_in_all(assignment: &[u8], wires: u64, standing: bool) -> Outcome
+    requires { ⌜ (8 * wires ≤ length (now assignment)) × (standing ≡ true → Stand 0 (32 * (wires / 32)) (now assignment)) ⌝ }
+    ensures { λ r. ⌜ r ≡ bitsAnswer (now (assignment .entry)) 0 wires ⌝ }
+{
+    if standing {
+        return bits_between(assignment, 32 * (wires / 32), wires);
+    }
+    bits_between(assignment, 0, wires)
 }
 
 // The word on the 32 wires from w on, all of which are bits.
-fn word_of(assignment: &[u8], w: WireNumber) -> u32
-    requires { ⌜ (8 * (w .0 + 32) ≤ length (now assignment)) × ((i : ℕ) → i < 32 → entry (now assignment) (w .0 + i) < 2) ⌝ }
+fn word_of(assignment: &[u8], w: WireNumber, standing: bool) -> u32
+    requires { ⌜ (8 * (w .0 + 32) ≤ length (now assignment)) × ((i : ℕ) → i < 32 → entry (now assignment) (w .0 + i) < 2) × (standing ≡ true → Stand (w .0) 32 (now assignment)) ⌝ }
     ensures { λ r. ⌜ r ≡ number 32 (λ (i : ℕ). entry (now (assignment .entry)) (w .0 + i)) ⌝ }
 {
-    let WordRead::Word(x) = read_word(assignment, w) else {
+    if standing {
+        return number_from(assignment, w) as u32;
+    }
+    let WordRead::Word(x) = reduced_word(assignment, w) else {
         return 0;
     };
     x
 }
 
 // The first words of an assignment, whose wires are bits, four bytes each.
-fn put_words(assignment: &[u8], words: usize, out: &mut [u8])
-    requires { ⌜ (256 * words ≤ length (now assignment)) × (4 * words ≤ length (now out)) × ((w : ℕ) → w < 32 * words → entry (now assignment) w < 2) ⌝ }
+fn put_words(assignment: &[u8], words: usize, standing: bool, out: &mut [u8])
+    requires { ⌜ (256 * words ≤ length (now assignment)) × (4 * words ≤ length (now out)) × ((w : ℕ) → w < 32 * words → entry (now assignment) w < 2) × (standing ≡ true → Stand 0 (32 * words) (now assignment)) ⌝ }
     ensures { λ _. ⌜ Written 0 (bytesOfBits (4 * words) (entry (now (assignment .entry)))) (now (out .entry)) (now (out .exit)) ⌝ }
 {
     for j in 0..words {
-        let x = word_of(assignment, WireNumber(32 * j as u64));
+        let x = word_of(assignment, WireNumber(32 * j as u64), standing);
         put_word(out, 4 * j, x);
     }
 }
 
 // All wires of an assignment, which are bits: the words, and the last wire in the highest bit of a byte of its own.
-fn put_packed(assignment: &[u8], wires: u64, out: &mut [u8])
-    requires { ⌜ (wires % 32 ≡ 1) × (8 * wires ≤ length (now assignment)) × (packedLength wires ≤ length (now out)) × ((w : ℕ) → w < wires → entry (now assignment) w < 2) ⌝ }
+fn put_packed(assignment: &[u8], wires: u64, standing: bool, out: &mut [u8])
+    requires { ⌜ (wires % 32 ≡ 1) × (8 * wires ≤ length (now assignment)) × (packedLength wires ≤ length (now out)) × ((w : ℕ) → w < wires → entry (now assignment) w < 2) × (standing ≡ true → Stand 0 (32 * (wires / 32)) (now assignment)) ⌝ }
     ensures { λ _. ⌜ Written 0 (packedBytes wires (entry (now (assignment .entry)))) (now (out .entry)) (now (out .exit)) ⌝ }
 {
     let words = (wires / 32) as usize;
-    put_words(assignment, words, out);
+    put_words(assignment, words, standing, out);
     let last = read(assignment, WireNumber(wires - 1));
     out[4 * words] = (128 * last) as u8;
 }
@@ -114,10 +119,11 @@ pub fn pack(size: u64, assignment: &[u8], out: &mut [u8]) -> Outcome
     if assignment.len() as u64 != 8 * wires {
         return Outcome::Refused(Refusal::WrongLength);
     }
-    let answer = bits_in_all(assignment, wires);
+    let standing = words_stand(assignment, wires / 32);
+    let answer = bits_in_all(assignment, wires, standing);
     if let Outcome::Refused(refusal) = answer {
         return Outcome::Refused(refusal);
     }
-    put_packed(assignment, wires, out);
+    put_packed(assignment, wires, standing, out);
     Outcome::Done
 }

@@ -8,6 +8,7 @@ use Rattle.assignment.specs.Assignment.{entry}
 use Rattle.block.specs.BlockWires.{computedWires, stateWires}
 use Rattle.block.specs.Wires.{computedPerBlock, expansionAt}
 use Rattle.encoding.specs.Bits.{number}
+use Rattle.encoding.specs.Bytes.{fromLeastFirst}
 use Rattle.satisfaction.specs.declared.word_read.WordRead.the-variants.{NotBits, Word}
 use Rattle.satisfaction.specs.declared.word_read.WordRead.{WordRead}
 use Rattle.sm3.specs.Sm3.{wordOf}
@@ -16,6 +17,10 @@ use Rattle.sm3.specs.declared.state.State.{State}
 -- the n wires from w on read as the first values of s
 pub record Agrees (w n : ℕ) (s : ℕ → ℕ) (bytes : List ℕ) : Type 0 where
   pub entries : (k : ℕ) → k < n → entry bytes (w + k) ≡ s k
+
+-- the entries of the n wires from w on are the numbers 0 and 1 as they stand, and not only modulo p
+pub record Stand (w n : ℕ) (bytes : List ℕ) : Type 0 where
+  pub each : (i : ℕ) → i < n → fromLeastFirst 8 bytes (8 * (w + i)) < 2
 
 -- the n wires from w on read as bits, and they are those of the number x
 pub record BitsOf (w n x : ℕ) (bytes : List ℕ) : Type 0 where

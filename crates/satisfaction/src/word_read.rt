@@ -3,7 +3,7 @@ ghost use mathlib.Core.Bool.{true};
 ghost use mathlib.Core.Path.{_≡_};
 ghost use Prim.Native.Nat.{ℕ, _+_, _*_, _<_, _≤_};
 ghost use lib.ListN.{length};
-ghost use Rattle.satisfaction.specs.Agrees.{BitsOf, BitsOfState, BitsOfWords, IsWordRead};
+ghost use Rattle.satisfaction.specs.Agrees.{BitsOf, BitsOfState, BitsOfWords, IsWordRead, Stand};
 ghost use Rattle.satisfaction.specs.declared.word_read.StateRead.the-variants.{Words};
 ghost use Rattle.sm3.specs.declared.state.State.{State};
 use assignment::entry::raw;
@@ -35,20 +35,41 @@ pub enum StateRead {
     NotBits,
 }
 
-// The 32 entries from w on as they stand, at less than four instructions an entry. The callers test `seen`: a function that also
-// tests it is compiled so that the entries are stored until after the test, at six instructions an entry.
+// The 32 entries from w on put together by `or`, as they stand: it is above 1 where one of them is.
+pub fn seen_from(assignment: &[u8], w: WireNumber) -> u64
+    requires { ⌜ 8 * (w .0 + 32) ≤ length (now assignment) ⌝ }
+    ensures { λ r. ⌜ (r < 2 → Stand (w .0) 32 (now (assignment .entry))) ⌝ }
+{
+    let mut seen: u64 = 0;
+    for i in 0..32 {
+        seen = seen | raw(assignment, WireNumber(w.0 + i));
+    }
+    seen
+}
+
+// The number that the 32 entries from w on write if they stand as 0 and 1.
+pub fn number_from(assignment: &[u8], w: WireNumber) -> u64
+    requires { ⌜ 8 * (w .0 + 32) ≤ length (now assignment) ⌝ }
+    ensures { λ r. ⌜ (Stand (w .0) 32 (now (assignment .entry)) → BitsOf (w .0) 32 r (now (assignment .entry))) ⌝ }
+{
+    let mut number: u64 = 0;
+    for i in 0..32 {
+        let n = raw(assignment, WireNumber(w.0 + i));
+        number = std::num::wrapping_add_u64(std::num::wrapping_add_u64(number, number), n);
+    }
+    number
+}
+
+// The 32 entries from w on as they stand. The callers test `seen`.
 pub fn read_standing(assignment: &[u8], w: WireNumber) -> Standing
     requires { ⌜ 8 * (w .0 + 32) ≤ length (now assignment) ⌝ }
     ensures { λ r. ⌜ (r .seen < 2 → BitsOf (w .0) 32 (r .number) (now (assignment .entry))) ⌝ }
 {
-    let mut number: u64 = 0;
-    let mut seen: u64 = 0;
-    for i in 0..32 {
-        let n = raw(assignment, WireNumber(w.0 + i));
-        number = std::num::wrapping_add_u64(std::num::wrapping_add_u64(number, number), n);
-        seen = seen | n;
+    let number = number_from(assignment, w);
+    Standing {
+        number,
+        seen: seen_from(assignment, w),
     }
-    Standing { number, seen }
 }
 
 // The word on the 32 wires from w on, whatever numbers the entries are.

@@ -1,19 +1,20 @@
--- Refusal 10 is looked for from wire 0 on, and the answer about some wires is that about all where it is a refusal; else the wires
--- after them decide. So words may be passed by whose 32 wires are bits.
+-- Refusal 10 is looked for from wire 0 on: where a wire reads as 0 or 1 the wires after it decide. So wires that stand as 0 and 1
+-- may be passed by.
 use mathlib.Core.Bool.{false, true}
 use mathlib.Core.List.{List}
-use mathlib.Core.Path.{_≡_, _∙_, sym}
+use mathlib.Core.Path.{_≡_}
 use Prim.Native.Nat.{ℕ, _+_, _-_, _≤_, _<_}
 use native.Mathlib.Omega.{arith}
 use borrow.Author.Tests.{le-ltb, lt-ltb, ltb-true}
 use lib.Dec.{ltb}
 use Rattle.assignment.specs.Assignment.{entry}
 use Rattle.encoding.proofs.Lowest as failing
+use Rattle.packing.proofs.pack.StandingEntries.{stand-bit}
 use Rattle.packing.specs.Pack.{bitsAnswer}
 use Rattle.refusal.specs.declared.outcome.Outcome.the-variants.{Done, Refused}
-use Rattle.refusal.specs.declared.outcome.Outcome.{Outcome}
 use Rattle.refusal.specs.declared.outcome.Refusal.the-variants.{EntryNotBit}
 use Rattle.refusal.specs.declared.outcome.Refusal.{Refusal}
+use Rattle.satisfaction.specs.Agrees.{Stand}
 
 -- a refusal is not `Done`
 pub refused-done : (r : Refusal) → Refused r ≡ Done → ⊥
@@ -54,16 +55,11 @@ module _ (bytes : List ℕ) where
       unfolding bitsAnswer
       bit-fails h = failing.lowest-fails _ _ Done n k l (le-ltb (entry bytes k) 2 h)
 
-    -- the m wires from k on, of which the answer is r
-    module _ (m : ℕ) (l : k + m ≤ n) (r : Outcome) (is : r ≡ bitsAnswer bytes k m) where
-      pub bits-past : r ≡ Done → bitsAnswer bytes k (n - k) ≡ bitsAnswer bytes (k + m) (n - (k + m))
-      unfolding bitsAnswer
-      bits-past e = failing.lowest-past _ _ Done n k m l (failing.none-all _ _ Done apart k m (sym is ∙ e))
-
-      pub bits-refused : (refusal : Refusal) → r ≡ Refused refusal → bitsAnswer bytes k (n - k) ≡ Refused refusal
-      unfolding bitsAnswer
-      bits-refused refusal e =
-          failing.lowest-parted _ _ Done n k m l
-          ∙ failing.lowest-among _ _ Done apart k m _ (λ none. refused-done refusal (sym e ∙ is ∙ none))
-          ∙ sym is
-          ∙ e
+    -- the m wires from k on stand as 0 and 1
+    pub bits-past : (m : ℕ) → k + m ≤ n → Stand k m bytes → bitsAnswer bytes k (n - k) ≡ bitsAnswer bytes (k + m) (n - (k + m))
+    unfolding bitsAnswer
+    bits-past m l stand =
+        failing.lowest-past _ _ Done n k m l
+        (λ i from below.
+        let place : k + (i - k) ≡ i = omega arith in
+        lt-ltb _ 2 (rw place at (stand-bit stand (i - k) (omega arith))))

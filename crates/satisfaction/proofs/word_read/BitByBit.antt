@@ -12,7 +12,7 @@ use Rattle.assignment.specs.Assignment.{entry}
 use Rattle.encoding.specs.Bits.{number}
 use Rattle.encoding.specs.Bytes.{fromLeastFirst}
 use Rattle.satisfaction.proofs.Agreeing.{bits-lt}
-use Rattle.satisfaction.specs.Agrees.{BitsOf, IsWordRead}
+use Rattle.satisfaction.specs.Agrees.{BitsOf, IsWordRead, Stand}
 use Rattle.satisfaction.specs.declared.word_read.WordRead.the-variants.{NotBits, Word}
 
 pub no-bit : (w : ℕ) (bytes : List ℕ) → BitsOf w 0 0 bytes
@@ -36,17 +36,31 @@ room {i = i} l h =
 
 -- Entries that are bits as they stand.
 
--- where all that was seen is not above 1, x is what the first i bits write
-abbrev pub Standing : List ℕ → ℕ → ℕ → ℕ → ℕ → Type 0
-Standing bytes w i x seen = seen < 2 → BitsOf w i x bytes
+-- what was seen of the first i is not above 1 only where they stand as 0 and 1
+abbrev pub Seen : List ℕ → ℕ → ℕ → ℕ → Type 0
+Seen bytes w i seen = seen < 2 → Stand w i bytes
 
-pub one-standing : {w i x y z seen n : ℕ} {bytes : List ℕ} → i < 32 → n ≡ fromLeastFirst 8 bytes (8 * (w + i))
-    → y ≡ (x + x) % 2 ^ 64 → z ≡ (y + n) % 2 ^ 64 → Standing bytes w i x seen → Standing bytes w (i + 1) z (bitOr seen n)
-unfolding entry
-one-standing {w} {i} {x} {y} {z} {seen} {n} {bytes} l e double sum h few =
+pub none-seen : (w : ℕ) (bytes : List ℕ) → Seen bytes w 0 0
+none-seen w bytes few = record { each = below-none (λ i. fromLeastFirst 8 bytes (8 * (w + i)) < 2) }
+
+pub one-seen : {w i seen n : ℕ} {bytes : List ℕ} → n ≡ fromLeastFirst 8 bytes (8 * (w + i)) → Seen bytes w i seen
+    → Seen bytes w (i + 1) (bitOr seen n)
+one-seen {w} {i} {seen} {n} {bytes} e h few =
     let seen-few : seen < 2 = omega (arith, or-add-and seen n, and-le-r seen n) in
     let bit : n < 2 = omega (arith, or-add-and seen n, and-le-l seen n) in
-    let before = h seen-few in
+    record {
+      each =
+          below-more (λ i. fromLeastFirst 8 bytes (8 * (w + i)) < 2) i (h seen-few .each) (subst (λ x. x < 2) e bit);
+    }
+
+-- one more of those that stand so
+pub one-standing : {w i x y z n : ℕ} {bytes : List ℕ} → i < 32 → n ≡ fromLeastFirst 8 bytes (8 * (w + i))
+    → y ≡ (x + x) % 2 ^ 64 → z ≡ (y + n) % 2 ^ 64 → (Stand w 32 bytes → BitsOf w i x bytes)
+    → Stand w 32 bytes → BitsOf w (i + 1) z bytes
+unfolding entry
+one-standing {w} {i} {x} {y} {z} {n} {bytes} l e double sum h stand =
+    let before = h stand in
+    let bit : n < 2 = omega (arith, stand .each i l) in
     let entry-is : n ≡ entry bytes (w + i) = omega arith in
     let moved : x * 2 + n ≡ z = omega (arith, room l before) in
     subst (λ v. BitsOf w (i + 1) v bytes) moved (one-bit before entry-is bit)

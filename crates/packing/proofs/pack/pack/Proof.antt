@@ -52,8 +52,11 @@ returns-3 c =
     λ e. c .if3 .taken (e ∙ ap (λ n. 8 * n) (sym counted)) in
     (simp (le-ltb _ _ (tests .if1 .left), le-ltb _ _ room, ne-eqb _ _ wrong), refl)
 
+words-stand-requires : tie.Need-words-stand-requires
+words-stand-requires c κs = search needs
+
 bits-in-all-requires : tie.Need-bits-in-all-requires
-bits-in-all-requires c κs = search needs
+bits-in-all-requires c κs = (omega arith, c .words-stand .ensures)
 
 enum-known-answer : tie.Need-enum-known-answer
 enum-known-answer c = search needs
@@ -62,7 +65,7 @@ returns-4 : tie.Need-returns-4
 unfolding packAnswer
 returns-4 c =
     let asked = c .before .before .before in
-    let length-told = asked .before in
+    let length-told = asked .before .before in
     let counted = length-told .before .before .before .wire-count .ensures .0 in
     let tests = length-told .before .before .before .before in
     let a = tests .before .before .before .args in
@@ -79,12 +82,13 @@ enum-told c = search needs
 put-packed-requires : tie.Need-put-packed-requires
 put-packed-requires c κs =
     let asked = c .before .before .before in
-    let counted = asked .before .before .before .before .wire-count .ensures .0 in
-    let a = asked .before .before .before .before .before .before .before .before .args in (
+    let counted = asked .before .before .before .before .before .wire-count .ensures .0 in
+    let a = asked .before .before .before .before .before .before .before .before .before .args in (
       omega (arith, one-over (8 * a .size)),
       omega arith,
       omega arith,
       done-bits (now (a .assignment)) _ (sym (asked .bits-in-all .ensures) ∙ c .before .enum-told .given .1),
+      asked .before .words-stand .ensures,
     )
 
 same-length : tie.Need-same-length
@@ -96,7 +100,7 @@ returns-5 c =
     let put = c .before .before in
     let told = put .before .before in
     let asked = told .before .before in
-    let length-told = asked .before in
+    let length-told = asked .before .before in
     let counted = length-told .before .before .before .wire-count .ensures .0 in
     let tests = length-told .before .before .before .before in
     let a = tests .before .before .before .args in
@@ -120,6 +124,7 @@ pack-spec =
     returns-2
     mul-if3
     returns-3
+    words-stand-requires
     bits-in-all-requires
     enum-known-answer
     returns-4

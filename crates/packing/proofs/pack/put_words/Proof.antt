@@ -10,24 +10,28 @@ use Rattle.encoding.specs.Bits.{bytesOfBits}
 use Rattle.encoding.specs.Sequence.{tab}
 use Rattle.encoding.specs.Written.{Written}
 use Rattle.packing.proofs.WordBytes.{one-word-more}
+use Rattle.packing.proofs.pack.StandingEntries.{stand-part}
 use Rattle.packing.proofs.pack.put_words.Statement.{statement}
 use Rattle.packing.proofs.pack.put_words.Tie as tie
 
 abbrev Inv-loop : tie.InvT-loop
-Inv-loop assignment words out₀ j₀ out j = (j ≤ words) × Written 0 (bytesOfBits (4 * j) (entry assignment)) out₀ out
+Inv-loop assignment words standing out₀ j₀ out j = (j ≤ words) × Written 0 (bytesOfBits (4 * j) (entry assignment)) out₀ out
 
 abbrev μ-loop : tie.MeasureT-loop
-μ-loop assignment words out₀ j₀ out j = words - j
+μ-loop assignment words standing out₀ j₀ out j = words - j
 
 loop-holds : tie.Need-loop-holds Inv-loop μ-loop
 unfolding bytesOfBits tab
 loop-holds c = (omega arith, written-none _ _)
 
-mul-t8 : tie.Need-mul-t8 Inv-loop μ-loop
-mul-t8 c = search needs
+mul-t9 : tie.Need-mul-t9 Inv-loop μ-loop
+mul-t9 c = search needs
 
 word-of-requires : tie.Need-word-of-requires Inv-loop μ-loop
-word-of-requires c κs = (omega arith, λ i l. c .before .before .before .before .pre .2 _ (omega arith))
+word-of-requires c κs =
+    let start = c .before .before .before .before in
+    let j = c .before .loop .j in
+    (omega arith, λ i l. start .pre .2 _ (omega arith), λ e. stand-part (32 * j) 32 (omega arith) (start .pre .3 e))
 
 mul-put-word : tie.Need-mul-put-word Inv-loop μ-loop
 mul-put-word c = search needs
@@ -66,7 +70,7 @@ put-words-spec =
     Inv-loop
     μ-loop
     loop-holds
-    mul-t8
+    mul-t9
     word-of-requires
     mul-put-word
     put-word-requires

@@ -1,63 +1,16 @@
--- Before turn i the number is what the first i bits write, where nothing above 1 was seen.
-use mathlib.Core.Path.{_≡_}
-use Prim.Native.Nat.{_-_, _≤_}
-use native.Mathlib.Omega.{arith}
+-- Where nothing above 1 was seen all entries stand as 0 and 1, so they write the number.
 use borrow.Author.Needs.{needs}
-use Rattle.satisfaction.proofs.word_read.BitByBit.{Standing, no-bit, one-standing}
 use Rattle.satisfaction.proofs.word_read.read_standing.Statement.{statement}
 use Rattle.satisfaction.proofs.word_read.read_standing.Tie as tie
 
-abbrev Inv-loop : tie.InvT-loop
-Inv-loop assignment w number₀ seen₀ i₀ number seen i =
-    (i ≤ 32) × Standing assignment (w .0) i number seen
+number-from-requires : tie.Need-number-from-requires
+number-from-requires c κs = search needs
 
-abbrev μ-loop : tie.MeasureT-loop
-μ-loop assignment w number₀ seen₀ i₀ number seen i = 32 - i
+seen-from-requires : tie.Need-seen-from-requires
+seen-from-requires c κs = search needs
 
-loop-holds : tie.Need-loop-holds Inv-loop μ-loop
-loop-holds c = (omega arith, λ few. no-bit _ _)
-
-add-wrapping-add-u64 : tie.Need-add-wrapping-add-u64 Inv-loop μ-loop
-add-wrapping-add-u64 c = search needs
-
-raw-requires : tie.Need-raw-requires Inv-loop μ-loop
-raw-requires c κs = search needs
-
-wrapping-add-u64-requires : tie.Need-wrapping-add-u64-requires Inv-loop μ-loop
-wrapping-add-u64-requires c κs = search needs
-
-wrapping-add-u64-requires-2 : tie.Need-wrapping-add-u64-requires-2 Inv-loop μ-loop
-wrapping-add-u64-requires-2 c κs = search needs
-
-add-i : tie.Need-add-i Inv-loop μ-loop
-add-i c = search needs
-
-loop-less : tie.Need-loop-less Inv-loop μ-loop
-loop-less c = search needs
-
-loop-again : tie.Need-loop-again Inv-loop μ-loop
-loop-again c =
-    let turn = c .before .before in
-    let l = turn .before .before .before in
-    (omega arith, one-standing (turn .before .before .loop-test .taken) (turn .raw .ensures) (c .before .wrapping-add-u64 .ensures) (c .wrapping-add-u642 .ensures) (l .loop .inv .1))
-
-returns : tie.Need-returns Inv-loop μ-loop
-returns c =
-    let all : c .before .loop .i ≡ 32 = omega arith in
-    λ few. rw all at (c .before .loop .inv .1 few)
+returns : tie.Need-returns
+returns c = λ few. c .before .number-from .ensures (c .seen-from .ensures few)
 
 pub read-standing-spec : {M : Type 1} → statement M
-read-standing-spec =
-    tie.close
-    (tie.spec
-    Inv-loop
-    μ-loop
-    loop-holds
-    add-wrapping-add-u64
-    raw-requires
-    wrapping-add-u64-requires
-    wrapping-add-u64-requires-2
-    add-i
-    loop-less
-    loop-again
-    returns)
+read-standing-spec = tie.close (tie.spec number-from-requires seen-from-requires returns)
