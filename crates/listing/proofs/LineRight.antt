@@ -7,15 +7,16 @@ use Prim.Native.Nat.{ℕ, _+_, _≤_, _<_}
 use native.Mathlib.Omega.{arith}
 use lib.ListN.{length, length-append}
 use lib.Seq.{drop-append-seam}
-use Rattle.listing.specs.Decimal.{decimal, field}
-use Rattle.listing.specs.Line.{Right, after, ended, fieldOf, line, parseOf}
-use Rattle.listing.specs.Text.{comma, lineFeed}
-use Rattle.listing.specs.declared.line.Field.{Field}
-use Rattle.listing.specs.declared.line.Field.the-variants.{Number, Wrong}
+use Rattle.text.proofs.Digits.{length-decimal}
+use Rattle.text.proofs.FieldRight.{field-begins, field-read, field-rest}
+use Rattle.text.specs.Decimal.{decimal, field}
+use Rattle.text.specs.Field.{fieldOf}
+use Rattle.text.specs.Text.{comma, lineFeed}
+use Rattle.text.specs.declared.field.Field.{Field}
+use Rattle.text.specs.declared.field.Field.the-variants.{Number, Wrong}
+use Rattle.listing.specs.Line.{Right, after, ended, line, parseOf}
 use Rattle.listing.specs.declared.line.Parsed.{Parsed}
 use Rattle.listing.specs.declared.line.Parsed.the-variants.{Numbers, Malformed}
-use Rattle.listing.proofs.Digits.{length-decimal}
-use Rattle.listing.proofs.FieldRight.{field-begins, field-read, field-rest}
 
 -- a right line, field by field
 fields : ℕ → ℕ → ℕ → List ℕ

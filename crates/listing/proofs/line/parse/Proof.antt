@@ -6,12 +6,13 @@ use native.Mathlib.Omega.{arith}
 use borrow.Author.Needs.{needs}
 use lib.ListN.{length, drop, length-append, length-drop, drop-of-length-le}
 use lib.Seq.{drop-cons, drop-drop}
-use Rattle.listing.specs.Decimal.{field}
-use Rattle.listing.specs.Line.{ended, fieldOf, parseOf}
-use Rattle.listing.specs.Text.{comma, lineFeed}
-use Rattle.listing.specs.declared.line.Field.the-variants.{Number, Wrong}
+use Rattle.text.proofs.FieldRight.{field-begins}
+use Rattle.text.specs.Decimal.{field}
+use Rattle.text.specs.Field.{fieldOf}
+use Rattle.text.specs.Text.{comma, lineFeed}
+use Rattle.text.specs.declared.field.Field.the-variants.{Number, Wrong}
+use Rattle.listing.specs.Line.{ended, parseOf}
 use Rattle.listing.specs.declared.line.Parsed.the-variants.{Numbers, Malformed}
-use Rattle.listing.proofs.FieldRight.{field-begins}
 use Rattle.listing.proofs.line.parse.Statement.{statement}
 use Rattle.listing.proofs.line.parse.Tie as tie
 

@@ -9,12 +9,12 @@ use native.Mathlib.Decide.{ℕ-discrete}
 use native.Mathlib.Omega.{arith}
 use lib.ListN.{length, drop, length-append}
 use lib.Seq.{drop-at}
-use Rattle.listing.specs.Decimal.{decimal, digit, field}
-use Rattle.listing.specs.Line.{continues, fieldFrom, fieldOf}
-use Rattle.listing.specs.declared.line.Field.{Field}
-use Rattle.listing.specs.declared.line.Field.the-variants.{Number, Wrong}
-use Rattle.listing.proofs.Digits.{by-tenths, decimal-high, decimal-low, decimal-more, decimal-some}
-use Rattle.listing.proofs.Fields.{NextDigit, digit-more, digit-wrong, is-next, next-digit, no-stop, stop-after, stop-first}
+use Rattle.text.specs.Decimal.{decimal, digit, field}
+use Rattle.text.specs.Field.{continues, fieldFrom, fieldOf}
+use Rattle.text.specs.declared.field.Field.{Field}
+use Rattle.text.specs.declared.field.Field.the-variants.{Number, Wrong}
+use Rattle.text.proofs.Digits.{by-tenths, decimal-high, decimal-low, decimal-more, decimal-some}
+use Rattle.text.proofs.Fields.{NextDigit, digit-more, digit-wrong, is-next, next-digit, no-stop, stop-after, stop-first}
 
 -- n digits of the value v have been read: `digits`
 record Read (v n : ℕ) (digits : List ℕ) : Type 0 where

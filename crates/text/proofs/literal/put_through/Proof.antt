@@ -9,11 +9,11 @@ use borrow.Author.Needs.{needs}
 use borrow.Author.Tests.{eq-eqb, ne-eqb}
 use lib.ListN.{length, drop, getD, set, length-append, drop-of-length-le}
 use lib.Seq.{drop-cons}
-use Rattle.listing.specs.Put.{Put}
-use Rattle.listing.specs.Names.{through}
-use Rattle.listing.proofs.Put.{length-put, put-byte, put-none, put-then}
-use Rattle.listing.proofs.text.put_through.Statement.{statement}
-use Rattle.listing.proofs.text.put_through.Tie as tie
+use Rattle.text.specs.Put.{Put}
+use Rattle.text.specs.Literal.{through}
+use Rattle.text.proofs.Put.{length-put, put-byte, put-none, put-then}
+use Rattle.text.proofs.literal.put_through.Statement.{statement}
+use Rattle.text.proofs.literal.put_through.Tie as tie
 
 through-stop : (stop c : ℕ) (s : List ℕ) → c ≡ stop → through stop (c ∷ s) ≡ c ∷ []
 unfolding through

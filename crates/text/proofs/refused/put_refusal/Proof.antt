@@ -2,12 +2,12 @@
 use mathlib.Core.Path.{_≡_, refl}
 use native.Mathlib.Omega.{arith}
 use borrow.Author.Needs.{needs}
-use Rattle.listing.specs.Listing.{refused}
-use Rattle.listing.specs.Names.{through}
-use Rattle.listing.specs.Text.{ascii, comma}
-use Rattle.listing.proofs.Put.{put-then}
-use Rattle.listing.proofs.progress.put_refusal.Statement.{statement}
-use Rattle.listing.proofs.progress.put_refusal.Tie as tie
+use Rattle.text.specs.Refused.{refused}
+use Rattle.text.specs.Literal.{through}
+use Rattle.text.specs.Text.{ascii, comma}
+use Rattle.text.proofs.Put.{put-then}
+use Rattle.text.proofs.refused.put_refusal.Statement.{statement}
+use Rattle.text.proofs.refused.put_refusal.Tie as tie
 
 prefix : through comma (ascii "refused,") ≡ ascii "refused,"
 unfolding through

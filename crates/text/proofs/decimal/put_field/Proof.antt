@@ -1,10 +1,10 @@
 -- The stop goes after the digits.
 use native.Mathlib.Omega.{arith}
 use borrow.Author.Needs.{needs}
-use Rattle.listing.specs.Decimal.{field}
-use Rattle.listing.proofs.Put.{put-byte, put-then}
-use Rattle.listing.proofs.decimal.put_field.Statement.{statement}
-use Rattle.listing.proofs.decimal.put_field.Tie as tie
+use Rattle.text.specs.Decimal.{field}
+use Rattle.text.proofs.Put.{put-byte, put-then}
+use Rattle.text.proofs.decimal.put_field.Statement.{statement}
+use Rattle.text.proofs.decimal.put_field.Tie as tie
 
 put-decimal-requires : tie.Need-put-decimal-requires
 put-decimal-requires c κs = search needs

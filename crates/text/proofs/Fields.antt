@@ -6,8 +6,8 @@ use Prim.Native.Nat.{ℕ, _+_, _-_, _*_, _≤_, _<_}
 use native.Mathlib.Decide.{ℕ-discrete}
 use borrow.Author.Tests.{eq-eqb, ne-eqb, le-leb, leb-true, lt-ltb, ltb-true}
 use lib.Dec.{eqb, leb, ltb}
-use Rattle.listing.specs.Line.{continues, fieldFrom}
-use Rattle.listing.specs.declared.line.Field.the-variants.{Number, Wrong}
+use Rattle.text.specs.Field.{continues, fieldFrom}
+use Rattle.text.specs.declared.field.Field.the-variants.{Number, Wrong}
 
 pub no-stop : (stop v n : ℕ) → fieldFrom stop v n [] ≡ Wrong
 unfolding fieldFrom

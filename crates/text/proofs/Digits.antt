@@ -10,7 +10,7 @@ use native.Mathlib.Omega.{arith}
 use borrow.Author.Tests.{lt-ltb, le-ltb}
 use lib.Dec.{ltb}
 use lib.ListN.{length, length-append}
-use Rattle.listing.specs.Decimal.{decimal, digit, digits}
+use Rattle.text.specs.Decimal.{decimal, digit, digits}
 
 -- a digit more than are needed changes nothing
 digits-enough : (j k x : ℕ) → x < j → x < k → digits j x ≡ digits k x

@@ -1,8 +1,8 @@
 -- Each return has the tests that led to it, which are those of the definition.
 use borrow.Author.Tests.{eq-eqb, ne-eqb, le-leb, lt-leb, lt-ltb, le-ltb}
-use Rattle.listing.specs.Line.{continues}
-use Rattle.listing.proofs.line.is_next_digit.Statement.{statement}
-use Rattle.listing.proofs.line.is_next_digit.Tie as tie
+use Rattle.text.specs.Field.{continues}
+use Rattle.text.proofs.field.is_next_digit.Statement.{statement}
+use Rattle.text.proofs.field.is_next_digit.Tie as tie
 
 returns : tie.Need-returns
 unfolding continues

@@ -10,10 +10,10 @@ use borrow.Author.Needs.{needs}
 use borrow.Author.Tests.{not-false, not-true}
 use lib.ListN.{drop, getD, length, drop-of-length-le}
 use lib.Seq.{drop-cons}
-use Rattle.listing.specs.Line.{continues, fieldFrom, fieldOf}
-use Rattle.listing.proofs.Fields.{digit-more, digit-wrong, next-digit, stop-after, stop-first}
-use Rattle.listing.proofs.line.read_field.Statement.{statement}
-use Rattle.listing.proofs.line.read_field.Tie as tie
+use Rattle.text.specs.Field.{continues, fieldFrom, fieldOf}
+use Rattle.text.proofs.Fields.{digit-more, digit-wrong, next-digit, stop-after, stop-first}
+use Rattle.text.proofs.field.read_field.Statement.{statement}
+use Rattle.text.proofs.field.read_field.Tie as tie
 
 abbrev Inv-loop : tie.InvT-loop
 Inv-loop s at stop value₀ i₀ value i =

@@ -1,8 +1,8 @@
 // Numbers in decimal, written into a lent buffer.
 ghost use Prim.Native.Nat.{_+_, _≤_};
 ghost use lib.ListN.{length};
-ghost use Rattle.listing.specs.Decimal.{decimal, field};
-ghost use Rattle.listing.specs.Put.{Put};
+ghost use Rattle.text.specs.Decimal.{decimal, field};
+ghost use Rattle.text.specs.Put.{Put};
 
 // The digits of x from `at` on.
 pub fn put_decimal(out: &mut [u8], at: usize, x: u64) -> usize

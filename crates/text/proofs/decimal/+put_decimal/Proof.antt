@@ -8,15 +8,15 @@ use borrow.Author.Needs.{needs}
 use borrow.Fn.Kinds.{In}
 use borrow.Fn.PlainCycle.{Measures, is, falls, and}
 use lib.ListN.{length, set, length-append}
-use Rattle.listing.specs.Decimal.{decimal, digit}
-use Rattle.listing.specs.Put.{Put}
-use Rattle.listing.proofs.Digits.{decimal-low, decimal-high, length-decimal-64}
-use Rattle.listing.proofs.Put.{put-byte, put-then}
-use Rattle.listing.proofs.decimal.put_decimal.Reads as reads
-use Rattle.listing.proofs.decimal.put_decimal.Kinds as kinds
-use Rattle.listing.proofs.decimal.+put_decimal.Lts-put_decimal as lts
-use Rattle.listing.proofs.decimal.+put_decimal.{statement}
-use Rattle.listing.proofs.decimal.+put_decimal.Tie.{close}
+use Rattle.text.specs.Decimal.{decimal, digit}
+use Rattle.text.specs.Put.{Put}
+use Rattle.text.proofs.Digits.{decimal-low, decimal-high, length-decimal-64}
+use Rattle.text.proofs.Put.{put-byte, put-then}
+use Rattle.text.proofs.decimal.put_decimal.Reads as reads
+use Rattle.text.proofs.decimal.put_decimal.Kinds as kinds
+use Rattle.text.proofs.decimal.+put_decimal.Lts-put_decimal as lts
+use Rattle.text.proofs.decimal.+put_decimal.{statement}
+use Rattle.text.proofs.decimal.+put_decimal.Tie.{close}
 
 put-low : (l : List ℕ) (at x : ℕ) → x < 10 → Put l at (decimal x) (set l at (digit x)) (at + 1)
 put-low l at x low = rw (decimal-low x low) (put-byte l at (digit x))

@@ -1,0 +1,4 @@
+pub mod Digits
+pub mod FieldRight
+pub mod Fields
+pub mod Put
