@@ -2,5 +2,6 @@
 pub mod console;
 pub mod decimal;
 pub mod field;
+pub mod hex;
 pub mod literal;
 pub mod refused;
