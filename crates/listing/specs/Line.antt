@@ -3,12 +3,9 @@
 use mathlib.Core.List.{List, [], _∷_, _++_}
 use mathlib.Core.Path.{_≡_}
 use Prim.Native.Nat.{ℕ, _<_}
-use lib.ListN.{drop}
 use Rattle.text.specs.Decimal.{field}
-use Rattle.text.specs.Field.{fieldOf}
+use Rattle.text.specs.Field.{after, fieldOf}
 use Rattle.text.specs.Text.{comma, lineFeed}
-use Rattle.text.specs.declared.field.Field.{Field}
-use Rattle.text.specs.declared.field.Field.the-variants.{Number, Wrong}
 use Rattle.listing.specs.declared.line.Parsed.{Parsed}
 use Rattle.listing.specs.declared.line.Parsed.the-variants.{Numbers, Malformed}
 
@@ -21,18 +18,13 @@ line l f h = field l comma ++ field f comma ++ field h lineFeed
 abbrev pub Right : List ℕ → ℕ → ℕ → ℕ → Type 0
 Right s l f h = (l < 1000000000) × (f < 1000000000) × (h < 1000000000) × (s ≡ line l f h)
 
--- what follows a field at the front of s
-abbrev pub after : Field → List ℕ → (ℕ → List ℕ → Parsed) → Parsed
-after Wrong s next = Malformed
-after (Number v n) s next = next v (drop n s)
-
 abbrev pub ended : List ℕ → Parsed → Parsed
 ended [] r = r
 ended (c ∷ s) r = Malformed
 
 unfoldable pub parseOf : List ℕ → Parsed
 parseOf s =
-    after (fieldOf comma s) s λ l s₁.
-    after (fieldOf comma s₁) s₁ λ f s₂.
-    after (fieldOf lineFeed s₂) s₂ λ h s₃.
+    after Malformed (fieldOf comma s) s λ l _ s₁.
+    after Malformed (fieldOf comma s₁) s₁ λ f _ s₂.
+    after Malformed (fieldOf lineFeed s₂) s₂ λ h _ s₃.
     ended s₃ (Numbers l f h)

@@ -1,3 +1,4 @@
+pub mod AfterField
 pub mod Digits
 pub mod FieldRight
 pub mod Fields

@@ -4,6 +4,7 @@ use mathlib.Core.Bool.{Bool, cond, _&&_, _||_}
 use mathlib.Core.List.{List, [], _∷_}
 use Prim.Native.Nat.{ℕ, _+_, _-_, _*_}
 use lib.Dec.{eqb, leb, ltb}
+use lib.ListN.{drop}
 use Rattle.text.specs.declared.field.Field.{Field}
 use Rattle.text.specs.declared.field.Field.the-variants.{Number, Wrong}
 
@@ -20,3 +21,8 @@ fieldFrom stop v n (c ∷ s) =
 
 unfoldable pub fieldOf : ℕ → List ℕ → Field
 fieldOf stop s = fieldFrom stop 0 0 s
+
+-- what follows a field at the front of s: `next`, of its value, the number of bytes that it takes and the bytes behind it
+abbrev pub after : {A : Type 0} → A → Field → List ℕ → (ℕ → ℕ → List ℕ → A) → A
+after wrong Wrong s next = wrong
+after wrong (Number v n) s next = next v n (drop n s)
