@@ -68,14 +68,16 @@ module _ (v : ℕ) (below : v < 16) where
       by (yes low) = simp (lt-ltb v 10 low, lt-ltb (48 + v) 97 (omega arith)) (omega arith)
       by (no high) = simp (le-ltb v 10 (omega arith), le-ltb (87 + v) 97 (omega arith)) (omega arith)
 
--- a digit lies within
-pub hex-within : (s : List ℕ) (k : ℕ) → isHex (getD s k 0) ≡ true → k < length s
-hex-within s k e = by (decLt k (length s))
+-- a byte that is not 0 lies within, and so does a digit
+pub byte-within : (s : List ℕ) (k : ℕ) → 0 < getD s k 0 → k < length s
+byte-within s k some = by (decLt k (length s))
   where
     by : Dec (k < length s) → k < length s
     by (yes within) = within
-    by (no past) =
-        absurd (omega (arith, hex-digit (getD s k 0) e .low, List·getD-eq-default s 0 {n = k} (omega arith)))
+    by (no past) = absurd (omega (arith, List·getD-eq-default s 0 {n = k} (omega arith)))
+
+pub hex-within : (s : List ℕ) (k : ℕ) → isHex (getD s k 0) ≡ true → k < length s
+hex-within s k e = byte-within s k (omega (arith, hex-digit (getD s k 0) e .low))
 
 -- n digits stand there exactly if each of n bytes is a digit
 each-more :
