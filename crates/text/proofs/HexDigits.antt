@@ -2,8 +2,8 @@
 -- end reads as 0 and is no digit, so where n digits stand they all lie within.
 use mathlib.Core.Bool.{true, and-eq-true-iff, or-false}
 use mathlib.Core.List.{List}
-use mathlib.Core.Logic.{_↔_}
-use mathlib.Core.Path.{_≡_, refl, subst, sym}
+use mathlib.Core.Logic.{_↔_, Iff·and, Iff·trans}
+use mathlib.Core.Path.{_≡_, refl, subst, sym, ap, _∙_}
 use Prim.Native.Nat.{ℕ, zero, suc, _+_, _-_, _≤_, _<_}
 use native.Mathlib.Decide.{decLt}
 use native.Mathlib.Nat.{add-zero}
@@ -60,13 +60,16 @@ module _ (v : ℕ) (below : v < 16) where
             le-leb (87 + v) 102 (omega arith),
           )
 
-  pub value-of-digit : hexValue (hexDigit v) ≡ v
+  value-of-digit : hexValue (hexDigit v) ≡ v
   unfolding hexValue hexDigit
   value-of-digit = by (decLt v 10)
     where
       by : Dec (v < 10) → hexValue (hexDigit v) ≡ v
       by (yes low) = simp (lt-ltb v 10 low, lt-ltb (48 + v) 97 (omega arith)) (omega arith)
       by (no high) = simp (le-ltb v 10 (omega arith), le-ltb (87 + v) 97 (omega arith)) (omega arith)
+
+pub digit-same : (v w : ℕ) → v < 16 → w < 16 → hexDigit v ≡ hexDigit w → v ≡ w
+digit-same v w v-below w-below same = sym (value-of-digit v v-below) ∙ ap hexValue same ∙ value-of-digit w w-below
 
 -- a byte that is not 0 lies within, and so does a digit
 pub byte-within : (s : List ℕ) (k : ℕ) → 0 < getD s k 0 → k < length s
@@ -82,27 +85,20 @@ hex-within s k e = byte-within s k (omega (arith, hex-digit (getD s k 0) e .low)
 -- n digits stand there exactly if each of n bytes is a digit
 each-more :
     (P : ℕ → Type 0) (n at : ℕ)
-    → P at
-    → Each n (λ k. P (at + 1 + k))
-    → Each (suc n) (λ k. P (at + k))
-each-more P n at first rest zero l = subst P (sym (add-zero at)) first
-each-more P n at first rest (suc k) l =
-    let place : at + 1 + k ≡ at + suc k = omega arith in
-    subst P place (rest k (omega arith))
+    → (P at × Each n (λ k. P (at + 1 + k))) ↔ Each (suc n) (λ k. P (at + k))
+each-more P n at = (grown, λ each. (subst P (add-zero at) (each 0 (omega arith)), λ k l. subst P (place k) (each (suc k) (omega arith))))
+  where
+    place : (k : ℕ) → at + suc k ≡ at + 1 + k
+    place k = omega arith
+
+    grown : P at × Each n (λ k. P (at + 1 + k)) → Each (suc n) (λ k. P (at + k))
+    grown h zero l = subst P (sym (add-zero at)) (h .0)
+    grown h (suc k) l = subst P (sym (place k)) (h .1 k (omega arith))
 
 pub all-hex-each : (n : ℕ) (s : List ℕ) (at : ℕ) → (allHex n s at ≡ true) ↔ Each n (λ k. isHex (getD s (at + k) 0) ≡ true)
 unfolding allHex
 all-hex-each zero s at = (λ _. below-none _, λ _. refl)
-all-hex-each (suc n) s at = (
-  λ all.
-      let both = and-eq-true-iff (isHex (getD s at 0)) (allHex n s (at + 1)) .0 all in
-      each-more (λ k. isHex (getD s k 0) ≡ true) n at (both .0) (all-hex-each n s (at + 1) .0 (both .1)),
-  λ each.
-      and-eq-true-iff (isHex (getD s at 0)) (allHex n s (at + 1)) .1 (
-        subst (λ k. isHex (getD s k 0) ≡ true) (add-zero at) (each 0 (omega arith)),
-        all-hex-each n s (at + 1) .1
-            (λ k l.
-            let place : at + suc k ≡ at + 1 + k = omega arith in
-            subst (λ j. isHex (getD s j 0) ≡ true) place (each (suc k) (omega arith))),
-      ),
-)
+all-hex-each (suc n) s at =
+    Iff·trans (and-eq-true-iff (isHex (getD s at 0)) (allHex n s (at + 1)))
+    (Iff·trans (Iff·and (λ h. h, λ h. h) (all-hex-each n s (at + 1)))
+    (each-more (λ k. isHex (getD s k 0) ≡ true) n at))

@@ -12,7 +12,7 @@ use Rattle.encoding.proofs.Tab.{length-tab}
 use Rattle.encoding.specs.Bytes.{Bytes}
 use Rattle.encoding.specs.Sequence.{tab}
 use Rattle.text.specs.Hex.{allHex, bytesOfHex, hex, hexDigit, hexValue, isHex}
-use Rattle.text.proofs.HexDigits.{all-hex-each, digit-is-hex, hex-digit, hex-within, value-of-digit}
+use Rattle.text.proofs.HexDigits.{all-hex-each, digit-is-hex, digit-same, hex-digit, hex-within}
 
 pub length-hex : (d : List ℕ) → length (hex d) ≡ 2 * length d
 unfolding hex
@@ -35,10 +35,8 @@ hex-same (x ∷ d) (y ∷ e) d-bytes e-bytes same =
     let highs : hexDigit (x / 16) ≡ hexDigit (y / 16) = cc in
     let lows : hexDigit (x % 16) ≡ hexDigit (y % 16) = cc in
     let rest : hex d ≡ hex e = cc in
-    let high : x / 16 ≡ y / 16 =
-    sym (value-of-digit (x / 16) (omega arith)) ∙ ap hexValue highs ∙ value-of-digit (y / 16) (omega arith) in
-    let low : x % 16 ≡ y % 16 =
-    sym (value-of-digit (x % 16) (omega arith)) ∙ ap hexValue lows ∙ value-of-digit (y % 16) (omega arith) in
+    let high : x / 16 ≡ y / 16 = digit-same (x / 16) (y / 16) (omega arith) (omega arith) highs in
+    let low : x % 16 ≡ y % 16 = digit-same (x % 16) (y % 16) (omega arith) (omega arith) lows in
     let same-byte : x ≡ y = omega arith in
     ap₂ (λ (b : ℕ) (t : List ℕ). b ∷ t) same-byte (hex-same d e (λ k. d-bytes (suc k)) (λ k. e-bytes (suc k)) rest)
 
@@ -50,6 +48,7 @@ hex-all (b ∷ d) bytes zero below = let byte : b < 256 = bytes 0 in digit-is-he
 hex-all (b ∷ d) bytes (suc zero) below = digit-is-hex (b % 16) (omega arith)
 hex-all (b ∷ d) bytes (suc (suc k)) below = hex-all d (λ j. bytes (suc j)) k (omega arith)
 
+-- .. wherever they stand
 pub hex-there :
     (n : ℕ) (s : List ℕ) (at : ℕ) (d : List ℕ)
     → length d ≡ n

@@ -56,7 +56,9 @@ fn byte_of_hex(s: &[u8], at: usize) -> u8
     requires { ⌜ (isHex (getD (now s) at 0) ≡ true) × (isHex (getD (now s) (at + 1) 0) ≡ true) ⌝ }
     ensures { λ r. ⌜ r ≡ 16 * hexValue (getD (now (s .entry)) at 0) + hexValue (getD (now (s .entry)) (at + 1) 0) ⌝ }
 {
-    16 * hex_value(s[at]) + hex_value(s[at + 1])
+    let high = hex_value(s[at]);
+    let low = hex_value(s[at + 1]);
+    16 * high + low
 }
 
 // The bytes that the digits from `at` on write, as many as `out` has.

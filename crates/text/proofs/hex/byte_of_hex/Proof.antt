@@ -17,17 +17,17 @@ shared-slice-read-hex-value c = omega (arith, within (c .before .before))
 hex-value-requires : tie.Need-hex-value-requires
 hex-value-requires c κs = search needs
 
-mul-result : tie.Need-mul-result
-mul-result c = search needs
-
 add-hex-value : tie.Need-add-hex-value
 add-hex-value c = omega (arith, within (c .before .before .before))
 
 shared-slice-read-hex-value-2 : tie.Need-shared-slice-read-hex-value-2
-shared-slice-read-hex-value-2 c = omega (arith, within (c .before .before .before .before))
+shared-slice-read-hex-value-2 c = within (c .before .before .before .before)
 
 hex-value-requires-2 : tie.Need-hex-value-requires-2
 hex-value-requires-2 c κs = search needs
+
+mul-result : tie.Need-mul-result
+mul-result c = search needs
 
 add-result : tie.Need-add-result
 add-result c = search needs
@@ -41,9 +41,9 @@ byte-of-hex-spec =
     (tie.spec
     shared-slice-read-hex-value
     hex-value-requires
-    mul-result
     add-hex-value
     shared-slice-read-hex-value-2
     hex-value-requires-2
+    mul-result
     add-result
     returns)
