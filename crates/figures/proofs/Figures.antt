@@ -9,11 +9,12 @@ use Rattle.record.specs.RowAnswer.{rowAnswer}
 use Rattle.encoding.specs.Bytes.{fromLeastFirst, leastFirst}
 use Rattle.encoding.specs.Sequence.{tab}
 use Rattle.figures.specs.Figures.{Figure, table}
-use Rattle.listing.specs.Line.{continues, fieldFrom, fieldOf, parseOf}
+use Rattle.listing.specs.Line.{parseOf}
 use Rattle.listing.specs.Request.{checked, requestOf}
 use Rattle.sm3.specs.Message.{blocks}
 use Rattle.sm3.specs.Sm3.{P0, P1, constant, rotatedConstant}
 use Rattle.sm3.specs.Words.{rotateLeft}
+use Rattle.text.specs.Field.{continues, fieldFrom, fieldOf}
 
 pub figures : map (λ (f : Figure). f .computed) table ≡ map (λ (f : Figure). f .stated) table
 unfolding blocks wireCount rowCount rowAnswer checkAnswer entry leastFirst fromLeastFirst tab P0 P1 rotatedConstant constant rotateLeft requestOf checked parseOf fieldOf fieldFrom continues

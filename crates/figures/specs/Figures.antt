@@ -11,11 +11,11 @@ use Rattle.record.specs.RowAnswer.{rowAnswer, rowBytes, rowNumber}
 use Rattle.encoding.specs.Bytes.{leastFirst}
 use Rattle.field.specs.Field.{p}
 use Rattle.listing.specs.Request.{requestNumber, requestOf}
-use Rattle.listing.specs.Text.{ascii}
 use Rattle.refusal.specs.Refusals.{outcomeNumber}
 use Rattle.sm3.specs.Digest.{digestAnswer}
 use Rattle.sm3.specs.Message.{blocks}
 use Rattle.sm3.specs.Sm3.{P0, P1, rotatedConstant}
+use Rattle.text.specs.Text.{ascii}
 
 pub record Figure : Type 0 where
   pub computed : ℕ

@@ -11,9 +11,11 @@ use borrow.Author.Tests.{eq-eqb, le-ltb, lt-ltb, ne-eqb}
 use lib.Dec.{ltb}
 use lib.ListN.{length}
 use Rattle.refusal.specs.declared.numbers.RowNumber.{RowNumber}
-use Rattle.listing.specs.Listing.{lines, linesFrom, refused}
+use Rattle.text.proofs.Put.{length-put, put-front, put-none, put-then}
+use Rattle.text.specs.Put.{Put}
+use Rattle.text.specs.Refused.{refused}
+use Rattle.listing.specs.Listing.{lines, linesFrom}
 use Rattle.listing.specs.Progress.{Handed, chunkOf, fitting, nextOf, past, room}
-use Rattle.listing.specs.Put.{Put}
 use Rattle.listing.specs.Request.{requestNumber}
 use Rattle.listing.specs.declared.progress.Listing.{Listing}
 use Rattle.listing.specs.declared.progress.Listing.the-variants as listing
@@ -22,7 +24,6 @@ use Rattle.listing.specs.declared.progress.Progress.the-variants.{Begun,
 use Rattle.listing.specs.declared.request.Request.{Request}
 use Rattle.listing.specs.declared.request.Request.the-variants.{BadLine, Refused, Rows}
 use Rattle.listing.proofs.Lines.{lines-more, lines-none}
-use Rattle.listing.proofs.Put.{length-put, put-front, put-none, put-then}
 
 module _ (least : ℕ) (of : ℕ → List ℕ) where
   fitting-none : (k n : ℕ) → fitting least of k 0 n ≡ 0

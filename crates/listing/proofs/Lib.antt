@@ -1,11 +1,7 @@
 pub mod AllPrinted
 pub mod Chunks
-pub mod Digits
-pub mod FieldRight
-pub mod Fields
 pub mod HeldLines
 pub mod LineRight
 pub mod Lines
 pub mod Names
-pub mod Put
 pub mod Requests

@@ -3,19 +3,15 @@
 use mathlib.Core.List.{List, [], _∷_, _++_, append-assoc, append-nil}
 use mathlib.Core.Logic.{_↔_}
 use mathlib.Core.Path.{_≡_, refl, sym, ap, _∙_}
-use Prim.Native.Nat.{ℕ, _+_, _≤_, _<_}
+use Prim.Native.Nat.{ℕ, _+_, _<_}
 use native.Mathlib.Omega.{arith}
 use lib.ListN.{length, length-append}
-use lib.Seq.{drop-append-seam}
-use Rattle.listing.specs.Decimal.{decimal, field}
-use Rattle.listing.specs.Line.{Right, after, ended, fieldOf, line, parseOf}
-use Rattle.listing.specs.Text.{comma, lineFeed}
-use Rattle.listing.specs.declared.line.Field.{Field}
-use Rattle.listing.specs.declared.line.Field.the-variants.{Number, Wrong}
+use Rattle.text.proofs.AfterField.{goes-on, length-field, past}
+use Rattle.text.specs.Decimal.{field}
+use Rattle.text.specs.Text.{comma, lineFeed}
+use Rattle.listing.specs.Line.{Right, ended, line, parseOf}
 use Rattle.listing.specs.declared.line.Parsed.{Parsed}
 use Rattle.listing.specs.declared.line.Parsed.the-variants.{Numbers, Malformed}
-use Rattle.listing.proofs.Digits.{length-decimal}
-use Rattle.listing.proofs.FieldRight.{field-begins, field-read, field-rest}
 
 -- a right line, field by field
 fields : ℕ → ℕ → ℕ → List ℕ
@@ -25,53 +21,15 @@ line-fields : (l f h : ℕ) → line l f h ≡ fields l f h
 unfolding line fields
 line-fields l f h = simp (append-assoc, append-nil)
 
--- reading goes on after a field
-goes-on :
-    (stop : ℕ)
-    → stop < 48
-    → (v : ℕ)
-    → v < 1000000000
-    → (t : List ℕ) (next : ℕ → List ℕ → Parsed)
-    → after (fieldOf stop (field v stop ++ t)) (field v stop ++ t) next ≡ next v t
-goes-on stop apart v below t next =
-    ap (λ (f : Field). after f (field v stop ++ t) next) (field-read stop apart v below t)
-    ∙ ap (next v) (drop-append-seam (field v stop) t)
-
 read-whole : (l f h : ℕ) → l < 1000000000 → f < 1000000000 → h < 1000000000 → parseOf (fields l f h) ≡ Numbers l f h
 unfolding parseOf fields
 read-whole l f h l-below f-below h-below =
-    goes-on comma (omega arith) l l-below (field f comma ++ (field h lineFeed ++ [])) _
-    ∙ goes-on comma (omega arith) f f-below (field h lineFeed ++ []) _
-    ∙ goes-on lineFeed (omega arith) h h-below [] _
+    goes-on Malformed comma _ (omega arith) l l-below (field f comma ++ (field h lineFeed ++ []))
+    ∙ goes-on Malformed comma _ (omega arith) f f-below (field h lineFeed ++ [])
+    ∙ goes-on Malformed lineFeed _ (omega arith) h h-below []
 
 never : {l f h : ℕ} → Malformed ≡ Numbers l f h → ⊥
 never e = let z : _≡_ {A = ℕ} 0 1 = cc in omega arith
-
--- what was read before the rest t
-record Past (stop : ℕ) (s : List ℕ) (next : ℕ → List ℕ → Parsed) (r : Parsed) : Type 0 where
-  v : ℕ
-  t : List ℕ
-  below : v < 1000000000
-  is : s ≡ field v stop ++ t
-  on : next v t ≡ r
-
-past :
-    (stop : ℕ) (s : List ℕ) (next : ℕ → List ℕ → Parsed) (l f h : ℕ)
-    → after (fieldOf stop s) s next ≡ Numbers l f h
-    → Past stop s next (Numbers l f h)
-past stop s next l f h e = by (fieldOf stop s) refl e
-  where
-    by : (F : Field) → fieldOf stop s ≡ F → after F s next ≡ Numbers l f h → Past stop s next (Numbers l f h)
-    by (Number v m) read e =
-        let begins = field-begins stop s v m read in
-        record {
-          v = v;
-          t = begins .rest;
-          below = begins .below;
-          is = begins .is;
-          on = ap (next v) (sym (field-rest begins)) ∙ e;
-        }
-    by Wrong read e = absurd (never e)
 
 -- nothing stands after the third field
 all-read :
@@ -98,11 +56,13 @@ parse-right s l f h = (right, λ given. ap parseOf (given .3 ∙ line-fields l f
   where
     right : parseOf s ≡ Numbers l f h → Right s l f h
     right e =
-        let first = past comma s _ l f h e in
-        let second = past comma (first .t) _ l f h (first .on) in
-        let third = past lineFeed (second .t) _ l f h (second .on) in
-        all-read s (first .t) (second .t) (third .t) (first .v) (second .v) (third .v) l f h
-        (first .is) (second .is) (third .is) (first .below, second .below, third .below) (third .on)
+        let first = past Malformed comma _ s (Numbers l f h) never e in
+        let second = past Malformed comma _ (first .begins .rest) (Numbers l f h) never (first .on) in
+        let third = past Malformed lineFeed _ (second .begins .rest) (Numbers l f h) never (second .on) in
+        all-read s (first .begins .rest) (second .begins .rest) (third .begins .rest) (first .v) (second .v) (third .v) l f h
+        (first .begins .is) (second .begins .is) (third .begins .is)
+        (first .begins .below, second .begins .below, third .begins .below)
+        (third .on)
 
 -- .. and is refused otherwise
 pub parse-wrong : (s : List ℕ) → (parseOf s ≡ Malformed) ↔ ((l f h : ℕ) → Right s l f h → ⊥)
@@ -113,10 +73,6 @@ parse-wrong s = (λ bad l f h right. never (sym bad ∙ parse-right s l f h .1 r
     by Malformed read none = read
 
 -- A right line has at most 30 bytes, so a buffer that holds one more is long enough to tell.
-length-field : (v stop : ℕ) → v < 1000000000 → length (field v stop) ≤ 10
-unfolding field
-length-field v stop below = omega (arith, length-decimal 8 v below, length-append (decimal v) (stop ∷ []))
-
 pub long-wrong : (s : List ℕ) → 30 < length s → parseOf s ≡ Malformed
 unfolding line
 long-wrong s long =

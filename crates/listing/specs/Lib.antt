@@ -1,11 +1,8 @@
-pub mod Decimal
 pub mod Held
 pub mod Line
 pub mod Listing
 pub mod Names
 pub mod Progress
-pub mod Put
 pub mod Request
 pub mod Rows
 pub mod Steps
-pub mod Text

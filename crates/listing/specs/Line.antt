@@ -1,15 +1,11 @@
 -- The line that asks for rows (document 01, "Refusals in checking order": "1. The program's line is not three decimal
 -- numbers of 1 to 9 digits, without leading zeros, parted by commas, ended by one line feed and nothing after").
-use mathlib.Core.Bool.{Bool, cond, _&&_, _||_}
 use mathlib.Core.List.{List, [], _∷_, _++_}
 use mathlib.Core.Path.{_≡_}
-use Prim.Native.Nat.{ℕ, _+_, _-_, _*_, _<_}
-use lib.Dec.{eqb, leb, ltb}
-use lib.ListN.{drop}
-use Rattle.listing.specs.Decimal.{field}
-use Rattle.listing.specs.Text.{comma, lineFeed}
-use Rattle.listing.specs.declared.line.Field.{Field}
-use Rattle.listing.specs.declared.line.Field.the-variants.{Number, Wrong}
+use Prim.Native.Nat.{ℕ, _<_}
+use Rattle.text.specs.Decimal.{field}
+use Rattle.text.specs.Field.{after, fieldOf}
+use Rattle.text.specs.Text.{comma, lineFeed}
 use Rattle.listing.specs.declared.line.Parsed.{Parsed}
 use Rattle.listing.specs.declared.line.Parsed.the-variants.{Numbers, Malformed}
 
@@ -22,32 +18,13 @@ line l f h = field l comma ++ field f comma ++ field h lineFeed
 abbrev pub Right : List ℕ → ℕ → ℕ → ℕ → Type 0
 Right s l f h = (l < 1000000000) × (f < 1000000000) × (h < 1000000000) × (s ≡ line l f h)
 
--- whether c is a digit that may follow n digits of the value v
-unfoldable pub continues : ℕ → ℕ → ℕ → Bool
-continues v n c = leb 48 c && leb c 57 && ltb v 100000000 && (eqb n 0 || ltb 0 v)
-
--- what is left, s, of a number of which n digits of the value v stand before; the byte `stop` ends it
-unfoldable pub fieldFrom : ℕ → ℕ → ℕ → List ℕ → Field
-fieldFrom stop v n [] = Wrong
-fieldFrom stop v n (c ∷ s) =
-    cond (eqb c stop) (cond (eqb n 0) Wrong (Number v (n + 1)))
-    (cond (continues v n c) (fieldFrom stop (10 * v + (c - 48)) (n + 1) s) Wrong)
-
-unfoldable pub fieldOf : ℕ → List ℕ → Field
-fieldOf stop s = fieldFrom stop 0 0 s
-
--- what follows a field at the front of s
-abbrev pub after : Field → List ℕ → (ℕ → List ℕ → Parsed) → Parsed
-after Wrong s next = Malformed
-after (Number v n) s next = next v (drop n s)
-
 abbrev pub ended : List ℕ → Parsed → Parsed
 ended [] r = r
 ended (c ∷ s) r = Malformed
 
 unfoldable pub parseOf : List ℕ → Parsed
 parseOf s =
-    after (fieldOf comma s) s λ l s₁.
-    after (fieldOf comma s₁) s₁ λ f s₂.
-    after (fieldOf lineFeed s₂) s₂ λ h s₃.
+    after Malformed (fieldOf comma s) s λ l _ s₁.
+    after Malformed (fieldOf comma s₁) s₁ λ f _ s₂.
+    after Malformed (fieldOf lineFeed s₂) s₂ λ h _ s₃.
     ended s₃ (Numbers l f h)

@@ -1,11 +1,11 @@
 -- What `rows` and `steps` print (document 01, "What `rows` prints"; docs/STEPS.md).
 use mathlib.Core.List.{List, [], _++_}
 use Prim.Native.Nat.{ℕ, zero, suc, _+_}
-use Rattle.listing.specs.Decimal.{field}
+use Rattle.text.specs.Refused.{refused}
+use Rattle.text.specs.Text.{ascii}
 use Rattle.listing.specs.Request.{requestNumber, requestOf}
 use Rattle.listing.specs.Rows.{rowLines}
 use Rattle.listing.specs.Steps.{stepLine}
-use Rattle.listing.specs.Text.{ascii, lineFeed}
 use Rattle.listing.specs.declared.progress.Listing.{Listing}
 use Rattle.listing.specs.declared.progress.Listing.the-variants as listing
 use Rattle.listing.specs.declared.request.Request.{Request}
@@ -25,10 +25,6 @@ lines listing.Steps n k = stepLine n k
 unfoldable pub linesFrom : (ℕ → List ℕ) → ℕ → ℕ → List ℕ
 linesFrom of k zero = []
 linesFrom of k (suc m) = linesFrom of k m ++ of (k + m)
-
--- "A refused line prints `refused,` and the number, and nothing else"
-unfoldable pub refused : ℕ → List ℕ
-refused r = ascii "refused," ++ field r lineFeed
 
 -- all that is printed for a request: the first line and the lines of the rows, or the refusal
 abbrev pub printed : Listing → Request → List ℕ

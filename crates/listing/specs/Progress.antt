@@ -9,7 +9,8 @@ use lib.ListN.{length, take}
 use Rattle.circuit.specs.Places.{rowCount}
 use Rattle.refusal.specs.declared.numbers.RowNumber.{RowNumber}
 use Rattle.sm3.specs.Message.{mostBits}
-use Rattle.listing.specs.Listing.{header, lines, linesFrom, prints, refused}
+use Rattle.text.specs.Refused.{refused}
+use Rattle.listing.specs.Listing.{header, lines, linesFrom, prints}
 use Rattle.listing.specs.Request.{requestNumber, requestOf}
 use Rattle.listing.specs.Rows.{rowRoom}
 use Rattle.listing.specs.Steps.{stepRoom}

@@ -4,8 +4,8 @@ use Prim.Native.Nat.{ℕ, _*_}
 use Rattle.circuit.specs.Circuit.{rowAt}
 use Rattle.forms.specs.Shape.{mostTerms}
 use Rattle.forms.specs.declared.form.Term.{Term}
-use Rattle.listing.specs.Decimal.{field}
-use Rattle.listing.specs.Text.{comma, lineFeed}
+use Rattle.text.specs.Decimal.{field}
+use Rattle.text.specs.Text.{comma, lineFeed}
 
 -- "then a line a term"
 unfoldable pub termLine : ℕ → ℕ → ℕ → ℕ → List ℕ

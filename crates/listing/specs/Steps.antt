@@ -12,8 +12,8 @@ use Rattle.circuit.specs.Places.{placeAt}
 use Rattle.forms.specs.declared.form.Form.{Form}
 use Rattle.forms.specs.declared.form.Form.the-variants.{Fixed, Bit, XorOfTwo, XorOfThree, Majority, Choice, Sum, Equal}
 use Rattle.sm3.specs.Message.{blocks}
-use Rattle.listing.specs.Decimal.{field}
-use Rattle.listing.specs.Text.{ascii, comma}
+use Rattle.text.specs.Decimal.{field}
+use Rattle.text.specs.Text.{ascii, comma}
 
 -- whether a step is of a block
 abbrev pub inBlock : Step → Bool

@@ -1,9 +1,7 @@
 // What the programs `rows` and `steps` read and print.
-pub mod decimal;
 pub mod line;
 pub mod program;
 pub mod progress;
 pub mod request;
 pub mod step;
 pub mod term;
-pub mod text;

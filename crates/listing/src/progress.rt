@@ -4,12 +4,11 @@ ghost use Prim.Native.Nat.{_+_, _<_, _≤_};
 ghost use lib.ListN.{length};
 ghost use Rattle.circuit.specs.Places.{rowCount};
 ghost use Rattle.forms.specs.Terms.{termRoom};
-ghost use Rattle.listing.specs.Listing.{header, lines, refused};
+ghost use Rattle.listing.specs.Listing.{header, lines};
 ghost use Rattle.listing.specs.Progress.{Handed, Possible, RowsExist, room, unfinished};
-ghost use Rattle.listing.specs.Put.{Put};
 ghost use Rattle.listing.specs.Request.{requestOf};
 ghost use Rattle.sm3.specs.Message.{mostBits};
-use crate::decimal::put_field;
+ghost use Rattle.text.specs.Put.{Put};
 use crate::request::Request;
 use crate::request::refusal_number;
 use crate::request::request_of;
@@ -17,8 +16,9 @@ use crate::step::STEP_ROOM;
 use crate::step::put_step_line;
 use crate::term::ROW_ROOM;
 use crate::term::put_row;
-use crate::text::put_through;
 use refusal::numbers::RowNumber;
+use text::literal::put_through;
+use text::refused::put_refusal;
 
 // The two programs' listings.
 pub enum Listing {
@@ -89,15 +89,6 @@ fn put_header(listing: Listing, out: &mut [u8]) -> usize
         Listing::Rows => put_through(out, 0, b"row,part,wire,coefficient\n", 0, b'\n'),
         Listing::Steps => put_through(out, 0, b"row,block,step,index,bit,form\n", 0, b'\n'),
     }
-}
-
-// `refused,` and the number.
-fn put_refusal(out: &mut [u8], number: u64) -> usize
-    requires { ⌜ 29 ≤ length (now out) ⌝ }
-    ensures { λ r. ⌜ Put (now (out .entry)) 0 (refused number) (now (out .exit)) r × (r ≤ 29) ⌝ }
-{
-    let at = put_through(out, 0, b"refused,", 0, b',');
-    put_field(out, at, number, b'\n')
 }
 
 // The lines of a row. `terms` is room for its terms.

@@ -4,11 +4,9 @@ ghost use Prim.Native.Nat.{_+_, _<_, _≤_};
 ghost use lib.ListN.{length};
 ghost use Rattle.circuit.specs.Places.{rowCount};
 ghost use Rattle.listing.specs.Names.{formPlace, stepPlace};
-ghost use Rattle.listing.specs.Put.{Put};
 ghost use Rattle.listing.specs.Steps.{formText, inBlock, optional, stepLine, stepRoom, stepText, whatText, whereText};
 ghost use Rattle.sm3.specs.Message.{mostBits};
-use crate::decimal::put_field;
-use crate::text::put_through;
+ghost use Rattle.text.specs.Put.{Put};
 use block::place::Place;
 use block::step::Step;
 use block::step::lines_of;
@@ -17,6 +15,8 @@ use circuit::step_form::form_of;
 use forms::form::Form;
 use refusal::numbers::RowNumber;
 use sm3::message::block_count;
+use text::decimal::put_field;
+use text::literal::put_through;
 
 // How many bytes the line of a row takes at most.
 pub const STEP_ROOM: usize = 106;

@@ -4,13 +4,13 @@ ghost use lib.ListN.{length};
 ghost use Rattle.circuit.specs.Places.{rowCount};
 ghost use Rattle.forms.specs.Terms.{termRoom};
 ghost use Rattle.listing.specs.Held.{heldLines};
-ghost use Rattle.listing.specs.Put.{Put};
 ghost use Rattle.listing.specs.Rows.{lineRoom, rowLines, rowRoom, termLine};
 ghost use Rattle.sm3.specs.Message.{mostBits};
-use crate::decimal::put_field;
+ghost use Rattle.text.specs.Put.{Put};
 use circuit::row::row_terms;
 use refusal::numbers::RowNumber;
 use refusal::numbers::WireNumber;
+use text::decimal::put_field;
 
 // How many bytes the lines of a row take at most: 163 terms, each of a line of at most 65 bytes.
 pub const ROW_ROOM: usize = 163 * 65;

@@ -4,22 +4,16 @@ use mathlib.Core.Path.{_≡_, sym, ap, _∙_}
 use Prim.Native.Nat.{ℕ, _+_, _≤_, _<_}
 use native.Mathlib.Omega.{arith}
 use borrow.Author.Needs.{needs}
-use lib.ListN.{length, drop, length-append, length-drop, drop-of-length-le}
+use lib.ListN.{length, drop, length-drop, drop-of-length-le}
 use lib.Seq.{drop-cons, drop-drop}
-use Rattle.listing.specs.Decimal.{field}
-use Rattle.listing.specs.Line.{ended, fieldOf, parseOf}
-use Rattle.listing.specs.Text.{comma, lineFeed}
-use Rattle.listing.specs.declared.line.Field.the-variants.{Number, Wrong}
+use Rattle.text.proofs.AfterField.{field-within}
+use Rattle.text.specs.Field.{fieldOf}
+use Rattle.text.specs.Text.{comma, lineFeed}
+use Rattle.text.specs.declared.field.Field.the-variants.{Number, Wrong}
+use Rattle.listing.specs.Line.{ended, parseOf}
 use Rattle.listing.specs.declared.line.Parsed.the-variants.{Numbers, Malformed}
-use Rattle.listing.proofs.FieldRight.{field-begins}
 use Rattle.listing.proofs.line.parse.Statement.{statement}
 use Rattle.listing.proofs.line.parse.Tie as tie
-
--- a field takes no more bytes than there are
-within : (stop : ℕ) (s : List ℕ) (v m : ℕ) → fieldOf stop s ≡ Number v m → m ≤ length s
-within stop s v m e =
-    let begins = field-begins stop s v m e in
-    omega (arith, begins .bytes, ap length (begins .is), length-append (field v stop) (begins .rest))
 
 -- the answer, by how far the line can be read
 module _ (s : List ℕ) where
@@ -34,7 +28,7 @@ module _ (s : List ℕ) where
 
     module _ (f b : ℕ) (second : fieldOf comma (drop a s) ≡ Number f b) where
       within-two : a + b ≤ length s
-      within-two = omega (arith, within comma s l a first, within comma (drop a s) f b second, length-drop a s)
+      within-two = omega (arith, field-within comma s l a first, field-within comma (drop a s) f b second, length-drop a s)
 
       no-many : fieldOf lineFeed (drop (a + b) s) ≡ Wrong → parseOf s ≡ Malformed
       unfolding parseOf
@@ -42,7 +36,7 @@ module _ (s : List ℕ) where
 
       module _ (h c : ℕ) (third : fieldOf lineFeed (drop (a + b) s) ≡ Number h c) where
         within-three : a + b + c ≤ length s
-        within-three = omega (arith, within-two, within lineFeed (drop (a + b) s) h c third, length-drop (a + b) s)
+        within-three = omega (arith, within-two, field-within lineFeed (drop (a + b) s) h c third, length-drop (a + b) s)
 
         three-read : parseOf s ≡ ended (drop (a + b + c) s) (Numbers l f h)
         unfolding parseOf

@@ -20,11 +20,8 @@ enum-known-n c = search needs
 enum-told : tie.Need-enum-told
 enum-told c = search needs
 
-slice-aggregate-write-all : tie.Need-slice-aggregate-write-all
-slice-aggregate-write-all c = search needs
-
-write-all-requires : tie.Need-write-all-requires
-write-all-requires c κs = search needs
+say-unread-requires : tie.Need-say-unread-requires
+say-unread-requires c κs = search needs
 
 returns : tie.Need-returns
 returns c = search needs
@@ -52,8 +49,7 @@ run-spec =
     read-input-requires
     enum-known-n
     enum-told
-    slice-aggregate-write-all
-    write-all-requires
+    say-unread-requires
     returns
     array-share-prefix-space
     slice-aggregate-print-listing

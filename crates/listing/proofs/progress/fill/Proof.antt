@@ -5,10 +5,10 @@ use borrow.Author.Needs.{needs}
 use lib.ListN.{length}
 use Rattle.circuit.specs.Places.{rowCount}
 use Rattle.sm3.specs.Message.{blocks}
+use Rattle.text.proofs.Put.{length-put}
 use Rattle.listing.specs.Listing.{lines}
 use Rattle.listing.specs.Progress.{room}
 use Rattle.listing.proofs.Chunks.{Filling, filling-more, filling-none, handed-all, handed-full}
-use Rattle.listing.proofs.Put.{length-put}
 use Rattle.listing.proofs.progress.fill.Statement.{statement}
 use Rattle.listing.proofs.progress.fill.Tie as tie
 

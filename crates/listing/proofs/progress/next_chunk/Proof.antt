@@ -5,6 +5,7 @@ use mathlib.Core.List.{List}
 use native.Mathlib.Omega.{arith}
 use borrow.Author.Needs.{needs}
 use lib.ListN.{length}
+use Rattle.text.proofs.Put.{put-none}
 use Rattle.listing.specs.Progress.{Handed, Possible}
 use Rattle.listing.specs.declared.progress.Chunk.{Chunk}
 use Rattle.listing.specs.declared.progress.Listing.{Listing}
@@ -12,7 +13,6 @@ use Rattle.listing.specs.declared.progress.Progress.{Progress}
 use Rattle.listing.specs.declared.progress.Progress.the-variants.{Done}
 use Rattle.listing.proofs.AllPrinted.{possible-next}
 use Rattle.listing.proofs.Chunks.{handed}
-use Rattle.listing.proofs.Put.{put-none}
 use Rattle.listing.proofs.progress.next_chunk.Statement.{statement}
 use Rattle.listing.proofs.progress.next_chunk.Tie as tie
 

@@ -2,9 +2,9 @@
 use mathlib.Core.Path.{_≡_, refl}
 use native.Mathlib.Omega.{arith}
 use borrow.Author.Needs.{needs}
+use Rattle.text.specs.Literal.{through}
+use Rattle.text.specs.Text.{lineFeed}
 use Rattle.listing.specs.Listing.{header}
-use Rattle.listing.specs.Names.{through}
-use Rattle.listing.specs.Text.{lineFeed}
 use Rattle.listing.specs.declared.progress.Listing.{Listing}
 use Rattle.listing.specs.declared.progress.Listing.the-variants.{Rows, Steps}
 use Rattle.listing.proofs.progress.put_header.Statement.{statement}

@@ -5,9 +5,10 @@ use native.Mathlib.Omega.{arith}
 use borrow.Author.Needs.{needs}
 use lib.ListN.{drop}
 use Rattle.forms.specs.declared.form.Form.{Form}
-use Rattle.listing.specs.Names.{allForms, formPlace, through}
+use Rattle.text.specs.Literal.{through}
+use Rattle.text.specs.Text.{lineFeed}
+use Rattle.listing.specs.Names.{allForms, formPlace}
 use Rattle.listing.specs.Steps.{formText}
-use Rattle.listing.specs.Text.{lineFeed}
 use Rattle.listing.proofs.Names.{form-name}
 use Rattle.listing.proofs.step.put_form.Statement.{statement}
 use Rattle.listing.proofs.step.put_form.Tie as tie

@@ -1,8 +1,8 @@
 -- A number that is given is a field, else there is its stop alone.
 use native.Mathlib.Omega.{arith}
 use borrow.Author.Needs.{needs}
+use Rattle.text.proofs.Put.{put-byte}
 use Rattle.listing.specs.Steps.{optional}
-use Rattle.listing.proofs.Put.{put-byte}
 use Rattle.listing.proofs.step.put_optional.Statement.{statement}
 use Rattle.listing.proofs.step.put_optional.Tie as tie
 

@@ -5,9 +5,10 @@ use native.Mathlib.Omega.{arith}
 use borrow.Author.Needs.{needs}
 use lib.ListN.{drop}
 use Rattle.block.specs.declared.step.Step.{Step}
-use Rattle.listing.specs.Names.{allSteps, stepPlace, through}
+use Rattle.text.specs.Literal.{through}
+use Rattle.text.specs.Text.{comma}
+use Rattle.listing.specs.Names.{allSteps, stepPlace}
 use Rattle.listing.specs.Steps.{stepText}
-use Rattle.listing.specs.Text.{comma}
 use Rattle.listing.proofs.Names.{step-name}
 use Rattle.listing.proofs.step.put_step.Statement.{statement}
 use Rattle.listing.proofs.step.put_step.Tie as tie

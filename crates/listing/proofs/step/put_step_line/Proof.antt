@@ -8,8 +8,8 @@ use Rattle.circuit.specs.Circuit.{formAt}
 use Rattle.circuit.specs.Places.{placeAt}
 use Rattle.circuit.specs.Ranges.{InCircuit}
 use Rattle.sm3.specs.Message.{blocks}
+use Rattle.text.proofs.Put.{put-then}
 use Rattle.listing.specs.Steps.{stepLine}
-use Rattle.listing.proofs.Put.{put-then}
 use Rattle.listing.proofs.step.put_step_line.Statement.{statement}
 use Rattle.listing.proofs.step.put_step_line.Tie as tie
 

@@ -1,8 +1,8 @@
 -- The three columns go one after the other.
 use native.Mathlib.Omega.{arith}
 use borrow.Author.Needs.{needs}
+use Rattle.text.proofs.Put.{put-then}
 use Rattle.listing.specs.Steps.{whatText}
-use Rattle.listing.proofs.Put.{put-then}
 use Rattle.listing.proofs.step.put_what.Statement.{statement}
 use Rattle.listing.proofs.step.put_what.Tie as tie
 

@@ -5,11 +5,11 @@ use Prim.Native.Nat.{ℕ, _+_, _-_, _*_, _≤_}
 use native.Mathlib.Omega.{arith}
 use borrow.Author.Needs.{needs}
 use lib.ListN.{getD, length}
+use Rattle.text.proofs.Put.{put-none, put-then}
+use Rattle.text.specs.Put.{Put}
 use Rattle.listing.specs.Held.{heldLines}
-use Rattle.listing.specs.Put.{Put}
 use Rattle.listing.specs.Rows.{lineRoom, termLine}
 use Rattle.listing.proofs.Lines.{lines-more, lines-none}
-use Rattle.listing.proofs.Put.{put-none, put-then}
 use Rattle.listing.proofs.term.put_part.Statement.{statement}
 use Rattle.listing.proofs.term.put_part.Tie as tie
 

@@ -6,9 +6,9 @@ use borrow.Author.Needs.{needs}
 use lib.ListN.{length}
 use Rattle.circuit.specs.Circuit.{rowAt}
 use Rattle.forms.proofs.terms.WrittenTerms.{filled-front}
+use Rattle.text.proofs.Put.{put-then}
 use Rattle.listing.specs.Rows.{rowLines}
 use Rattle.listing.proofs.HeldLines.{held-A, held-B, held-C}
-use Rattle.listing.proofs.Put.{put-then}
 use Rattle.listing.proofs.term.put_row.Statement.{statement}
 use Rattle.listing.proofs.term.put_row.Tie as tie
 

@@ -2,9 +2,9 @@
 use native.Mathlib.Omega.{arith}
 use borrow.Author.Needs.{needs}
 use lib.ListN.{length-set}
+use Rattle.text.proofs.Put.{length-put, put-then, put-two}
+use Rattle.text.specs.Text.{comma}
 use Rattle.listing.specs.Rows.{termLine}
-use Rattle.listing.specs.Text.{comma}
-use Rattle.listing.proofs.Put.{length-put, put-then, put-two}
 use Rattle.listing.proofs.term.put_term_line.Statement.{statement}
 use Rattle.listing.proofs.term.put_term_line.Tie as tie
 

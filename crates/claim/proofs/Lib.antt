@@ -1,0 +1,2 @@
+pub mod LineFront
+pub mod LineRight

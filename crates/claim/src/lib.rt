@@ -1,0 +1,2 @@
+// What the program `packed` reads.
+pub mod line;
