@@ -1,2 +1,3 @@
+pub mod AnswersAll
 pub mod LineFront
 pub mod LineRight

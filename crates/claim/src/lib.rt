@@ -1,2 +1,4 @@
-// What the program `packed` reads.
+// What the program `packed` reads and answers.
+pub mod answer;
 pub mod line;
+pub mod program;
