@@ -5,8 +5,3 @@
 pub fn bit(bytes: &[u8], number: usize) -> u64 {
     u64::from(bytes[number / 8] >> (7 - number % 8) & 1)
 }
-
-/// Sets that bit, which was 0.
-pub fn set(bytes: &mut [u8], number: usize) {
-    bytes[number / 8] |= 0x80 >> (number % 8);
-}

@@ -15,7 +15,7 @@ pub fn pack(length: u64, assignment: &[u8], buffer: &mut [u8]) -> Result<(), Ref
     let length = Length::new(length)?;
     long_enough(buffer, length.packed_bytes())?;
     length.right_assignment(assignment)?;
-    let packed = packed(length, &field::read_entries(assignment))?;
+    let packed = packed(&field::read_entries(assignment))?;
     buffer[..packed.len()].copy_from_slice(&packed);
     Ok(())
 }
@@ -30,17 +30,18 @@ pub fn unpack(length: u64, packed: &[u8], buffer: &mut [u8]) -> Result<(), Refus
 }
 
 /// Refusal 10, "an entry reads neither 0 nor 1 (lowest wire returned)"; else
-/// the bytes in which the wires that read 1 have their bit set.
-fn packed(length: Length, entries: &[u64]) -> Result<Vec<u8>, Refusal> {
-    let mut bytes = vec![0; length.packed_bytes()];
-    for (wire, &entry) in entries.iter().enumerate() {
-        match entry {
-            0 => {}
-            1 => bits::set(&mut bytes, wire),
-            _ => return Err(Refusal::NoBit(Wire(wire as u32))),
-        }
+/// a byte for every eight wires.
+fn packed(entries: &[u64]) -> Result<Vec<u8>, Refusal> {
+    if let Some(wire) = entries.iter().position(|&entry| entry > 1) {
+        return Err(Refusal::NoBit(Wire(wire as u32)));
     }
-    Ok(bytes)
+    Ok(entries.chunks(8).map(byte).collect())
+}
+
+/// Eight bits, or the last ones and zeros, from the highest bit.
+fn byte(bits: &[u64]) -> u8 {
+    let places = bits.iter().zip((0..8).rev());
+    places.map(|(&bit, place)| (bit as u8) << place).sum()
 }
 
 /// The assignment that packed bytes stand for, each entry "the number 0 or 1":
