@@ -20,12 +20,15 @@ pub struct Calls {
     pub tally: Tally,
 }
 
+type Judge<'a> = dyn Fn(&[u8], &mut [u8]) -> Result<(), Refusal> + 'a;
+type Library<'a> = dyn Fn(Empty, &[u8], &mut [u8]) -> u64 + 'a;
+
 /// A call that reads one slice and writes another, of both sides.
 struct Written<'a> {
     operation: Operation,
     what: &'a str,
-    judge: &'a dyn Fn(&[u8], &mut [u8]) -> Result<(), Refusal>,
-    library: &'a dyn Fn(Empty, &[u8], &mut [u8]) -> u64,
+    judge: &'a Judge<'a>,
+    library: &'a Library<'a>,
 }
 
 impl Calls {

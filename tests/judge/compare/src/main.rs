@@ -47,7 +47,7 @@ const USAGE: &str =
 
 /// The form: a comparison, which needs the programs, or the soak.
 enum Form {
-    Compare { full: bool, programs: Programs },
+    Compare { full: bool, programs: Box<Programs> },
     Soak(Duration),
 }
 
@@ -88,7 +88,7 @@ fn options(arguments: &[String]) -> Option<Options> {
         Some(minutes) => Form::Soak(Duration::try_from_secs_f64(60.0 * minutes).ok()?),
         None => Form::Compare {
             full,
-            programs: programs(files)?,
+            programs: Box::new(programs(files)?),
         },
     };
     Some(Options {

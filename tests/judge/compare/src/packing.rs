@@ -116,12 +116,14 @@ fn pairs(one: &[usize], other: &[usize]) -> Vec<(usize, usize)> {
     one.iter().flat_map(with).collect()
 }
 
+type Call = fn(&mut Calls, u64, &[u8], usize, &str) -> Result<(), Refusal>;
+
 /// A call of pack or unpack, its buffer by the size.
 struct Lending {
     length: u64,
     read: Vec<u8>,
     out_len: usize,
-    call: fn(&mut Calls, u64, &[u8], usize, &str) -> Result<(), Refusal>,
+    call: Call,
 }
 
 impl Lending {
