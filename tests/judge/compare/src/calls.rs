@@ -77,7 +77,7 @@ impl Calls {
         let judged = (call.judge)(read, must.slice_mut());
         let answer = (call.library)(empty, lent.slice(), out.slice_mut());
         self.answers(operation, answers::plain(judged), answer, &what);
-        self.memory(operation, "slice that is read", &before, &lent, &what);
+        self.memory(operation, "read slice", &before, &lent, &what);
         self.memory(operation, "buffer", &must, &out, &what);
         judged
     }
