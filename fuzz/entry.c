@@ -217,28 +217,46 @@ static uint64_t take_other(struct input *in, int other, size_t real)
     return other ? take_near(in, 1015) : real;
 }
 
+/* A wire below so many: one of the first 257, one of the last 8, or any. */
+static uint64_t take_wire(struct input *in, uint64_t wires)
+{
+    uint64_t number = take(in, 4);
+    switch (number >> 30) {
+    case 1:
+        return number % 257;
+    case 2:
+        return wires - 1 - number % 8;
+    }
+    return number % wires;
+}
+
+/* An entry: a number beside a multiple of p, or any. */
+static uint64_t take_entry(struct input *in)
+{
+    uint64_t times = take(in, 1) % 16;
+    return times <= 8 ? times * P + take(in, 1) % 4 - 1 : take(in, 8);
+}
+
 /* A record's digest and, in `rights`, its assignment; in `claims` the same with up to 7 entries changed, and zeros
- * behind. A change may be one of the digest. */
+ * behind. A byte of the digest may be changed too. */
 static void take_claim(struct input *in, size_t length, uint8_t *sealed)
 {
     size_t exact = assignment_bytes(length);
-    unsigned changes = take(in, 1) % 8;
-    uint64_t wires[8], values[8];
-    for (unsigned k = 0; k < changes; k++) {
-        wires[k] = take(in, 4);
-        values[k] = take(in, 8);
+    uint64_t changes = take(in, 1), wires[8], values[8];
+    for (unsigned k = 0; k < changes % 8; k++) {
+        wires[k] = take_wire(in, exact / 8);
+        values[k] = take_entry(in);
     }
     const uint8_t *record = take_record(in, length);
     MUST(sm3rows_digest(record, length, sealed, 32) == 0);
     MUST(sm3rows_produce(record, length, rights, exact) == 0);
     memcpy(claims, rights, exact);
     memset(claims + exact, 0, 128);
-    for (unsigned k = 0; k < changes; k++) {
-        uint64_t wire = wires[k] % (wires[k] >> 30 & 1 ? 257 : exact / 8);
-        if (wires[k] >> 31)
-            sealed[wire % 32] ^= (uint8_t)values[k];
-        else
-            memcpy(claims + 8 * wire, &values[k], 8);
+    for (unsigned k = 0; k < changes % 8; k++)
+        memcpy(claims + 8 * wires[k], &values[k], 8);
+    if (changes & 128) {
+        size_t at = take(in, 1) % 32;
+        sealed[at] ^= (uint8_t)take(in, 1);
     }
 }
 
@@ -325,7 +343,7 @@ static void unpack(struct input *in)
         claims[k] = (uint8_t)(pattern * (k + 1) >> 3);
     for (unsigned changes = take(in, 1) % 8; changes > 0; changes--)
         claims[take(in, 2) % packed_len] = (uint8_t)take(in, 1);
-    claims[packed_len - 1] = last & 1 ? last : last & 0x80;
+    claims[packed_len - 1] = sizes & 128 ? last : last & 0x80;
     memcpy(packed, claims, packed_len);
     fill(out, out_len);
     unsigned refusal = (claims[packed_len - 1] & 0x7f) != 0 ? 12 : 0;

@@ -153,8 +153,8 @@ static size_t other_length(uint8_t *bytes, size_t size)
     return put_front(bytes, size, digits, (const uint8_t *)other, strlen(other));
 }
 
-/* One bit of the packed bytes changes: wire 0; a wire of the first 33 bytes, mostly of the digest; a bit of the last byte,
- * mostly a spare one; or any. */
+/* A bit of the packed bytes changes: wire 0; one of the first 33 bytes, mostly a digest wire; one of the last byte, mostly
+ * a spare one; or any. */
 static void turn_bit(uint8_t *packed, size_t size)
 {
     uint8_t bit = (uint8_t)(1 << below(8));
@@ -198,7 +198,8 @@ static size_t put_claim(uint8_t *bytes, size_t max_size)
     case 5:
         return other_length(bytes, size);
     default:
-        turn_bit(bytes + begin, size - begin);
+        for (uint64_t bits = 1 + below(3); bits > 0; bits--)
+            turn_bit(bytes + begin, size - begin);
     }
     return size;
 }
