@@ -127,6 +127,8 @@ pub fn bad_lines(program: &Program, calls: &mut Calls) {
         line.extend(&right.packed);
         must_print(program, calls, &line, "a bad line", 1);
     }
+    let upper = [right.line().to_ascii_uppercase(), right.packed.clone()].concat();
+    must_print(program, calls, &upper, "upper-case digits", 1);
     for bytes in [vec![], vec![b'1'; 100_000], right.line()[..66].to_vec()] {
         must_print(program, calls, &bytes, "no line feed", 1);
     }
@@ -162,11 +164,14 @@ pub fn faults(program: &Program, calls: &mut Calls, length: u64, times: usize) {
     }
 }
 
-/// A right claim; a bit of the wires, of the digest and of wire 0 changed; a
-/// spare bit; a byte too few and one too many.
+/// A right claim, also in two parts; a bit of the wires, of the digest and of
+/// wire 0 changed; a spare bit; a byte too few and one too many.
 pub fn claims(program: &Program, calls: &mut Calls, length: u64) {
     let right = Input::right(length, &mut calls.random);
     must_print(program, calls, &right.bytes(), "a right claim", 0);
+    let any = calls.random.below(right.bytes().len());
+    let cut = calls.random.pick(&[1, right.line().len(), any]);
+    program.compare_cut(calls, &right.bytes(), cut, "a right claim in two parts");
     for refusal in [7, 8, 9, 11, 12] {
         let mut input = right.clone();
         input.spoil(&[refusal], &mut calls.random);

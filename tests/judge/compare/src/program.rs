@@ -3,6 +3,8 @@
 use std::io::Write;
 use std::path::{Path, PathBuf};
 use std::process::{Command, Stdio};
+use std::thread;
+use std::time::Duration;
 
 use judge::{listing, packed, steps};
 
@@ -27,14 +29,24 @@ pub struct Programs {
     pub packed: Program,
 }
 
-fn run(program: &Path, input: &[u8]) -> std::io::Result<Vec<u8>> {
+/// How long a program has to read the first part of an input before the
+/// second is written.
+const PAUSE: Duration = Duration::from_millis(20);
+
+/// What a program prints for an input that comes in two parts.
+fn run(program: &Path, input: &[u8], cut: usize) -> std::io::Result<Vec<u8>> {
     let mut child = Command::new(program)
         .stdin(Stdio::piped())
         .stdout(Stdio::piped())
         .spawn()?;
     let mut stdin = child.stdin.take().expect("a pipe");
+    let (first, second) = input.split_at(cut);
     // A program that refuses early may close its input: no failure.
-    let _ = stdin.write_all(input);
+    let _ = stdin.write_all(first);
+    if !second.is_empty() {
+        thread::sleep(PAUSE);
+        let _ = stdin.write_all(second);
+    }
     drop(stdin);
     Ok(child.wait_with_output()?.stdout)
 }
@@ -123,8 +135,13 @@ impl Program {
     /// One input, to the program and to the judge. Returns what the judge has
     /// it print.
     pub fn compare(&self, calls: &mut Calls, input: &[u8], note: &str) -> String {
+        self.compare_cut(calls, input, input.len(), note)
+    }
+
+    /// The same with an input that comes in two parts, cut there.
+    pub fn compare_cut(&self, calls: &mut Calls, input: &[u8], cut: usize, note: &str) -> String {
         let judged = (self.judge)(input);
-        let told = match run(&self.file, input) {
+        let told = match run(&self.file, input, cut) {
             Ok(printed) => first_difference(&judged, &String::from_utf8_lossy(&printed)),
             Err(error) => Some(error.to_string()),
         };
