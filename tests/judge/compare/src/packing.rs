@@ -27,23 +27,26 @@ fn there_and_back(calls: &mut Calls, length: Length, wide: &[u8], small: &[u8], 
     calls.must_be(0, judged, note);
 }
 
-/// So many times a record's own assignment, as it is and with multiples of p
-/// added, and random packed bytes, which need not be of any record.
-pub fn all_ways(calls: &mut Calls, length: u64, count: usize) {
+/// So many records' own assignments, as they are and with multiples of p added.
+pub fn records(calls: &mut Calls, length: u64, count: usize) {
     let in_range = Length::new(length).expect("a length in range");
     for _ in 0..count {
         let mut claim = Claim::of(&record(calls, length));
-        let mut small = packed(in_range, &claim.assignment);
+        let small = packed(in_range, &claim.assignment);
         there_and_back(calls, in_range, &claim.assignment, &small, &claim.note);
         claim.shift(&mut calls.random);
         let judged = calls.pack(length, &claim.assignment, small.len(), &claim.note);
         calls.must_be(0, judged, &claim.note);
-        small = calls.random.bytes(in_range.packed_bytes());
-        small[in_range.packed_bytes() - 1] &= 0x80;
-        let wide = packing::unpacked(in_range, &small).expect("no spare bit");
-        there_and_back(calls, in_range, &wide, &small, "random packed bytes");
     }
     calls.tally.count("lengths packed and unpacked", 1);
+}
+
+/// Random packed bytes, which need not be of any record.
+pub fn random_bytes(calls: &mut Calls, length: Length) {
+    let mut small = calls.random.bytes(length.packed_bytes());
+    small[length.packed_bytes() - 1] &= 0x80;
+    let wide = packing::unpacked(length, &small).expect("no spare bit");
+    there_and_back(calls, length, &wide, &small, "random packed bytes");
 }
 
 /// One entry that is no bit, at wires beside the ends and the borders of bytes

@@ -285,7 +285,7 @@ fn length_jobs(jobs: &mut Vec<Job>, amounts: &Amounts, seed: u64) {
         jobs.push(job(format!("length {length}"), move |calls| {
             sections::digests(calls, length, digests);
             sections::produced(calls, length, produced);
-            packing::all_ways(calls, length, packed);
+            packing::records(calls, length, packed);
             sections::block_bit_rows(calls, length);
             sections::block_bit_claims(calls, length, block_bit_claims);
             if rows {
@@ -293,6 +293,7 @@ fn length_jobs(jobs: &mut Vec<Job>, amounts: &Amounts, seed: u64) {
                 sections::sampled_rows(calls, &ground, sampled_rows);
                 refusals::limits(calls, &ground);
                 packing::limits(calls, ground.length);
+                packing::random_bytes(calls, ground.length);
                 sections::right_claims(calls, &ground);
                 sections::some_damages(calls, &ground, some_damages);
             }
