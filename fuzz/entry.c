@@ -1,28 +1,19 @@
-/* libFuzzer harness for the four functions of include/sm3rows.h.
+/* libFuzzer harness for the six functions of include/sm3rows.h.
  *
  * An input is read as one call: a byte for the function, then its numbers, then bytes for its slices. The archive is not
  * instrumented, so the harness looks for faults itself: every slice ends at a page that cannot be touched, or begins
  * after one, so that a byte read or written outside stops the run; and every answer is held against what the paper says
- * of it. A promise that is not kept stops the run too. */
+ * of it. */
 
 #define _GNU_SOURCE
 #include <stdint.h>
-#include <stdio.h>
-#include <stdlib.h>
 #include <string.h>
 #include <sys/mman.h>
 
+#include "must.h"
 #include "sm3rows.h"
 
 static const uint64_t P = ((uint64_t)1 << 61) - 1;
-
-#define MUST(condition)                                                                                                \
-    do {                                                                                                               \
-        if (!(condition)) {                                                                                            \
-            fprintf(stderr, "entry.c:%d: not so: %s\n", __LINE__, #condition);                                         \
-            abort();                                                                                                   \
-        }                                                                                                              \
-    } while (0)
 
 /* ---- The input, byte by byte; past its end come zeros. ---- */
 
@@ -99,12 +90,13 @@ static uint64_t entry(const uint8_t *assignment, size_t wire)
     return value;
 }
 
-static uint64_t bit(const uint8_t *digest, size_t number)
+/* A bit of a digest or of packed bytes, the highest of a byte first. */
+static uint64_t bit(const uint8_t *bytes, size_t number)
 {
-    return digest[number / 8] >> (7 - number % 8) & 1;
+    return bytes[number / 8] >> (7 - number % 8) & 1;
 }
 
-/* ---- The four functions ---- */
+/* ---- Digest, row and produce ---- */
 
 static const uint8_t *take_record(struct input *in, size_t length)
 {
@@ -168,6 +160,17 @@ static void row(struct input *in)
     MUST(filled(at, out_len - (size_t)(at - out)));
 }
 
+/* How many bytes an assignment and its packed bytes must have; 0 for a length out of range. */
+static size_t assignment_bytes(uint64_t length)
+{
+    return length <= 1015 ? SM3ROWS_ASSIGNMENT_BYTES(length) : 0;
+}
+
+static size_t packed_bytes(uint64_t length)
+{
+    return (assignment_bytes(length) / 8 + 7) / 8;
+}
+
 /* A length that is mostly short, since long ones take long. */
 static size_t take_length(struct input *in)
 {
@@ -178,7 +181,7 @@ static size_t take_length(struct input *in)
 static void produce(struct input *in)
 {
     size_t length = take_length(in);
-    size_t exact = length <= 1015 ? SM3ROWS_ASSIGNMENT_BYTES(length) : 0;
+    size_t exact = assignment_bytes(length);
     size_t out_len = (exact + take(in, 1) - 128) % (ROOM - PAGE);
     uint8_t *out = slice(outs, out_len, take(in, 1));
     const uint8_t *record = take_record(in, length);
@@ -200,59 +203,92 @@ static void produce(struct input *in)
     MUST(sm3rows_check(length, sealed, sizeof sealed, out, exact) == 0);
 }
 
-/* A right claim with up to 7 entries or digest bits changed, and its sizes changed or not. */
-static void check(struct input *in)
-{
-    size_t real = take_length(in) % 1016, exact = SM3ROWS_ASSIGNMENT_BYTES(real);
-    uint64_t sizes = take(in, 1);
-    uint64_t length = sizes & 1 ? take_near(in, 1015) : real;
-    size_t digest_len = sizes & 2 ? take(in, 1) : 32;
-    size_t assignment_len = sizes & 4 ? exact + take(in, 1) - 128 : exact;
-    uint8_t *digest = slice(digests, digest_len, sizes >> 3);
-    uint8_t *assignment = slice(assignments, assignment_len, sizes >> 5);
-    unsigned changes = take(in, 1) % 8;
-    uint64_t wires[8], values[8];
-    for (unsigned k = 0; k < changes; k++) {
-        wires[k] = take(in, 4);
-        values[k] = take(in, 8);
-    }
+/* ---- Check, pack and unpack, on a record's own claim with some things changed ---- */
 
-    /* The record's own claim, and the claim made from it. */
-    const uint8_t *record = take_record(in, real);
-    uint8_t sealed[256] = {0};
-    MUST(sm3rows_digest(record, real, sealed, 32) == 0);
-    MUST(sm3rows_produce(record, real, rights, exact) == 0);
+/* A size that is right, or one near it. */
+static size_t take_size(struct input *in, int near, size_t exact)
+{
+    return near ? exact + take(in, 1) - 128 : exact;
+}
+
+/* A length that is the record's, or another. */
+static uint64_t take_other(struct input *in, int other, size_t real)
+{
+    return other ? take_near(in, 1015) : real;
+}
+
+/* A wire below so many: one of the first 257, one of the last 8, or any. */
+static uint64_t take_wire(struct input *in, uint64_t wires)
+{
+    uint64_t number = take(in, 4);
+    switch (number >> 30) {
+    case 1:
+        return number % 257;
+    case 2:
+        return wires - 1 - number % 8;
+    }
+    return number % wires;
+}
+
+/* An entry: a number beside a multiple of p, or any. */
+static uint64_t take_entry(struct input *in)
+{
+    uint64_t times = take(in, 1) % 16;
+    return times <= 8 ? times * P + take(in, 1) % 4 - 1 : take(in, 8);
+}
+
+/* A record's digest and, in `rights`, its assignment; in `claims` the same with up to 7 entries changed, and zeros
+ * behind. A byte of the digest may be changed too. */
+static void take_claim(struct input *in, size_t length, uint8_t *sealed)
+{
+    size_t exact = assignment_bytes(length);
+    uint64_t changes = take(in, 1), wires[8], values[8];
+    for (unsigned k = 0; k < changes % 8; k++) {
+        wires[k] = take_wire(in, exact / 8);
+        values[k] = take_entry(in);
+    }
+    const uint8_t *record = take_record(in, length);
+    MUST(sm3rows_digest(record, length, sealed, 32) == 0);
+    MUST(sm3rows_produce(record, length, rights, exact) == 0);
     memcpy(claims, rights, exact);
     memset(claims + exact, 0, 128);
-    for (unsigned k = 0; k < changes; k++) {
-        uint64_t wire = wires[k] % (wires[k] >> 30 & 1 ? 257 : exact / 8);
-        if (wires[k] >> 31)
-            sealed[wire % 32] ^= (uint8_t)values[k];
-        else
-            memcpy(claims + 8 * wire, &values[k], 8);
+    for (unsigned k = 0; k < changes % 8; k++)
+        memcpy(claims + 8 * wires[k], &values[k], 8);
+    if (changes & 128) {
+        size_t at = take(in, 1) % 32;
+        sealed[at] ^= (uint8_t)take(in, 1);
     }
+}
 
-    /* What the paper says of it. With so few changes no other record's claim comes out. */
+/* What the paper says of the claim for a length, if its sizes are right. With so few changes no other record's claim
+ * comes out. */
+static unsigned claim_refusal(uint64_t length, size_t real, const uint8_t *sealed)
+{
     int same = length == real, same_digest = 1;
-    for (size_t wire = 1; wire < exact / 8; wire++)
+    for (size_t wire = 1; wire < assignment_bytes(real) / 8; wire++)
         same &= entry(claims, wire) % P == entry(rights, wire);
     for (size_t number = 0; number < 256; number++)
         same_digest &= entry(claims, 1 + number) % P == bit(sealed, number);
-    uint64_t needed = length <= 1015 ? SM3ROWS_ASSIGNMENT_BYTES(length) : 0;
-    unsigned refusal = 9;
+    return entry(claims, 0) % P != 1 ? 7 : !same_digest ? 8 : same ? 0 : 9;
+}
+
+static void check(struct input *in)
+{
+    size_t real = take_length(in) % 1016;
+    uint64_t sizes = take(in, 1), length = take_other(in, sizes & 1, real);
+    size_t digest_len = sizes & 2 ? take(in, 1) : 32;
+    size_t assignment_len = take_size(in, sizes & 4, assignment_bytes(real));
+    uint8_t *digest = slice(digests, digest_len, sizes >> 3);
+    uint8_t *assignment = slice(assignments, assignment_len, sizes >> 5);
+    uint8_t sealed[256] = {0};
+    take_claim(in, real, sealed);
+    unsigned refusal = claim_refusal(length, real, sealed);
     if (length > 1015)
         refusal = 2;
     else if (digest_len != 32)
         refusal = 5;
-    else if (assignment_len != needed)
+    else if (assignment_len != assignment_bytes(length))
         refusal = 6;
-    else if (entry(claims, 0) % P != 1)
-        refusal = 7;
-    else if (!same_digest)
-        refusal = 8;
-    else if (same)
-        refusal = 0;
-
     if (digest_len > 0)
         memcpy(digest, sealed, digest_len);
     memcpy(assignment, claims, assignment_len);
@@ -263,9 +299,74 @@ static void check(struct input *in)
     MUST(digest_len == 0 || memcmp(digest, sealed, digest_len) == 0);
 }
 
+/* Packs the claim; what was packed unpacks to each entry modulo p. */
+static void pack(struct input *in)
+{
+    size_t real = take_length(in) % 1016;
+    uint64_t sizes = take(in, 1), length = take_other(in, sizes & 1, real), answer = 0;
+    size_t assignment_len = take_size(in, sizes & 2, assignment_bytes(real));
+    size_t out_len = take_size(in, sizes & 4, packed_bytes(real)), exact = packed_bytes(length);
+    uint8_t *assignment = slice(assignments, assignment_len, sizes >> 3), *out = slice(outs, out_len, sizes >> 5);
+    uint8_t sealed[32];
+    take_claim(in, real, sealed);
+    for (uint64_t wire = SM3ROWS_WIRES(real); wire-- > 0;)
+        answer = entry(claims, wire) % P > 1 ? 10 | wire << 8 : answer;
+    if (length > 1015)
+        answer = 2;
+    else if (out_len < exact)
+        answer = 4;
+    else if (assignment_len != assignment_bytes(length))
+        answer = 6;
+    memcpy(assignment, claims, assignment_len);
+    fill(out, out_len);
+    MUST(sm3rows_pack(length, assignment, assignment_len, out, out_len) == answer);
+    MUST(memcmp(assignment, claims, assignment_len) == 0);
+    exact = answer == 0 ? exact : 0;
+    MUST(filled(out + exact, out_len - exact));
+    if (answer == 0) {
+        MUST(sm3rows_unpack(length, out, exact, rights, ROOM) == 0);
+        for (size_t wire = 0; wire < SM3ROWS_WIRES(length); wire++)
+            MUST(bit(out, wire) == entry(claims, wire) % P && entry(rights, wire) == bit(out, wire));
+    }
+}
+
+/* Unpacks bytes of a pattern, up to 7 of them changed; what was unpacked packs to the same bytes. */
+static void unpack(struct input *in)
+{
+    size_t real = take_length(in) % 1016;
+    uint64_t sizes = take(in, 1), length = take_other(in, sizes & 1, real);
+    size_t packed_len = take_size(in, sizes & 2, packed_bytes(real)), exact = assignment_bytes(length);
+    size_t out_len = take_size(in, sizes & 4, assignment_bytes(real));
+    uint8_t *packed = slice(assignments, packed_len, sizes >> 3), *out = slice(outs, out_len, sizes >> 5);
+    uint8_t pattern = (uint8_t)take(in, 1), last = (uint8_t)take(in, 1);
+    for (size_t k = 0; k < packed_len; k++)
+        claims[k] = (uint8_t)(pattern * (k + 1) >> 3);
+    for (unsigned changes = take(in, 1) % 8; changes > 0; changes--)
+        claims[take(in, 2) % packed_len] = (uint8_t)take(in, 1);
+    claims[packed_len - 1] = sizes & 128 ? last : last & 0x80;
+    memcpy(packed, claims, packed_len);
+    fill(out, out_len);
+    unsigned refusal = (claims[packed_len - 1] & 0x7f) != 0 ? 12 : 0;
+    if (length > 1015)
+        refusal = 2;
+    else if (out_len < exact)
+        refusal = 4;
+    else if (packed_len != packed_bytes(length))
+        refusal = 11;
+    MUST(sm3rows_unpack(length, packed, packed_len, out, out_len) == refusal);
+    MUST(memcmp(packed, claims, packed_len) == 0);
+    exact = refusal == 0 ? exact : 0;
+    MUST(filled(out + exact, out_len - exact));
+    if (refusal == 0) {
+        for (size_t wire = 0; wire < exact / 8; wire++)
+            MUST(entry(out, wire) == bit(claims, wire));
+        MUST(sm3rows_pack(length, out, exact, rights, ROOM) == 0 && memcmp(rights, claims, packed_len) == 0);
+    }
+}
+
 int LLVMFuzzerTestOneInput(const uint8_t *data, size_t size)
 {
-    static void (*const functions[4])(struct input *) = {digest, row, produce, check};
+    static void (*const functions[6])(struct input *) = {digest, row, produce, check, pack, unpack};
     if (records == NULL) {
         records = room();
         outs = room();
@@ -275,6 +376,6 @@ int LLVMFuzzerTestOneInput(const uint8_t *data, size_t size)
         claims = room();
     }
     struct input in = {data, size};
-    functions[take(&in, 1) % 4](&in);
+    functions[take(&in, 1) % 6](&in);
     return 0;
 }

@@ -1,26 +1,12 @@
 /* libFuzzer harness for the line that the programs `rows` and `steps` read, and for the shape of what they print.
  *
- * fuzz/run.sh links the objects of both programs in with their `main`, `read` and `write` renamed, so that a run of a
- * program is a call and its standard input and output are the functions below. The first three bytes of an input say
- * which program runs and how its reads and writes go: whole, in pieces, failing. The others are its standard input. What
- * comes out is held against document 01 (refusals 1 to 3, "What `rows` prints"), docs/STEPS.md for the lines of `steps`,
- * and docs/DECISIONS.md for failing reads and writes. Which terms a row has is the judge's business.
- *
- * The objects are not instrumented, so the mutator below makes lines that are right or nearly so. */
+ * A run is as program.h has it; the manner's first byte says which program runs too. What comes out is held against
+ * document 01 (refusals 1 to 3, "What `rows` prints") and docs/STEPS.md for the lines of `steps`. Which terms a row has
+ * is the judge's business. */
 
-#include <stdint.h>
-#include <stdio.h>
-#include <stdlib.h>
 #include <string.h>
-#include <sys/types.h>
 
-#define MUST(condition)                                                                                                \
-    do {                                                                                                               \
-        if (!(condition)) {                                                                                            \
-            fprintf(stderr, "line.c:%d: not so: %s\n", __LINE__, #condition);                                          \
-            abort();                                                                                                   \
-        }                                                                                                              \
-    } while (0)
+#include "program.h"
 
 int rows_main(void), steps_main(void);
 
@@ -28,70 +14,11 @@ enum { ROWS, STEPS, PROGRAMS };
 static int (*const programs[PROGRAMS])(void) = {rows_main, steps_main};
 static const char *const headers[PROGRAMS] = {"row,part,wire,coefficient\n", "row,block,step,index,bit,form\n"};
 
-/* ---- Standard input, output and error of one run ---- */
-
-enum { OUTPUT = 1 << 17 };
-
-static const uint8_t *line;
-static size_t line_size, line_at;
-static size_t most_read, most_written; /* how many bytes one call moves at most */
-static unsigned reads_left;            /* so many reads go well */
-static size_t room;                    /* so many bytes are taken, at most OUTPUT */
-static int read_failed, write_failed;
-static char output[OUTPUT + 1];
-static size_t output_size, error_size;
-
-static size_t least(size_t a, size_t b)
-{
-    return a < b ? a : b;
-}
-
-ssize_t line_read(int fd, void *to, size_t count)
-{
-    MUST(fd == 0 && !read_failed && output_size == 0);
-    if (reads_left-- == 0) {
-        read_failed = 1;
-        return -1;
-    }
-    size_t n = least(least(count, most_read), line_size - line_at);
-    memcpy(to, line + line_at, n);
-    line_at += n;
-    return (ssize_t)n;
-}
-
-ssize_t line_write(int fd, const void *from, size_t count)
-{
-    if (fd == 2) {
-        error_size += count;
-        return (ssize_t)count;
-    }
-    MUST(fd == 1 && !read_failed && !write_failed);
-    size_t n = least(least(count, most_written), room - output_size);
-    memcpy(output + output_size, from, n);
-    output_size += n;
-    write_failed = n == 0 && count > 0;
-    return write_failed && room % 3 != 0 ? -1 : (ssize_t)n;
-}
-
 /* ---- Document 01 on the line ---- */
 
 static uint64_t row_count(uint64_t length)
 {
     return 512 + 32320 * ((length + 8) / 64 + 1);
-}
-
-/* A field of the line: 1 to 9 digits without leading zeros. */
-static int number(const uint8_t *field, size_t size, uint64_t *value)
-{
-    if (size < 1 || size > 9 || (size > 1 && field[0] == '0'))
-        return 0;
-    *value = 0;
-    for (size_t k = 0; k < size; k++) {
-        if (field[k] < '0' || field[k] > '9')
-            return 0;
-        *value = 10 * *value + field[k] - '0';
-    }
-    return 1;
 }
 
 /* Three fields parted by commas, ended by one line feed and nothing after. */
@@ -101,7 +28,7 @@ static int numbers(const uint8_t *bytes, size_t size, uint64_t values[3])
     for (size_t at = 0; at < size; at++) {
         if (bytes[at] != ',' && bytes[at] != '\n')
             continue;
-        if (bytes[at] != (field < 2 ? ',' : '\n') || !number(bytes + begin, at - begin, &values[field]))
+        if (bytes[at] != (field < 2 ? ',' : '\n') || !decimal(bytes + begin, at - begin, &values[field]))
             return 0;
         begin = at + 1;
         if (++field == 3)
@@ -185,7 +112,7 @@ static uint64_t step(char *text, uint64_t length)
 static void listing(int program, char *at, const uint64_t values[3])
 {
     uint64_t next = values[1], end = values[1] + values[2];
-    for (char *feed; (feed = memchr(at, '\n', (size_t)(output + output_size - at))) != NULL; at = feed + 1) {
+    for (char *feed; (feed = memchr(at, '\n', (size_t)(run.output + run.output_size - at))) != NULL; at = feed + 1) {
         *feed = 0;
         MUST(strlen(at) == (size_t)(feed - at));
         uint64_t row = program == ROWS ? term(at, values[0], next - 1) : step(at, values[0]);
@@ -193,13 +120,7 @@ static void listing(int program, char *at, const uint64_t values[3])
         next = row + 1;
         MUST(next <= end);
     }
-    MUST(write_failed || (next == end && at == output + output_size));
-}
-
-/* Whether what was printed begins with the text, or ends within it at a failing write. */
-static int begins(const char *text, size_t size)
-{
-    return memcmp(output, text, least(size, output_size)) == 0 && (output_size >= size || write_failed);
+    MUST(run.write_failed || (next == end && at == run.output + run.output_size));
 }
 
 /* ---- One run ---- */
@@ -217,21 +138,18 @@ static void report(void)
 static void judge(int program)
 {
     uint64_t values[3];
-    char text[16];
-    unsigned number = refusal(line, line_size, values);
-    MUST((error_size > 0) == (read_failed || write_failed));
-    seen[program][read_failed || write_failed ? 4 : number]++;
-    if (read_failed) {
-        MUST(output_size == 0);
-    } else if (number > 0) {
-        size_t size = (size_t)snprintf(text, sizeof text, "refused,%u\n", number);
-        MUST(begins(text, size) && output_size <= size);
-    } else {
-        size_t size = strlen(headers[program]);
-        MUST(begins(headers[program], size));
-        if (output_size >= size)
-            listing(program, output + size, values);
+    unsigned number = refusal(run.input, run.input_size, values);
+    seen[program][call_failed() ? 4 : number]++;
+    if (run.read_failed)
+        return;
+    if (number > 0) {
+        MUST(is_refused(number));
+        return;
     }
+    size_t size = strlen(headers[program]);
+    MUST(begins(headers[program]));
+    if (run.output_size >= size)
+        listing(program, run.output + size, values);
 }
 
 int LLVMFuzzerInitialize(int *argc, char ***argv)
@@ -241,37 +159,17 @@ int LLVMFuzzerInitialize(int *argc, char ***argv)
     return atexit(report);
 }
 
-enum { MANNER = 3 };
-
 int LLVMFuzzerTestOneInput(const uint8_t *data, size_t size)
 {
     if (size < MANNER)
         return 0;
     int program = data[0] % PROGRAMS;
-    most_read = data[0] / 2 % 4 == 0 ? SIZE_MAX : data[0] / 8 % 16 + 1u;
-    reads_left = data[0] & 128 ? data[1] % 8 : UINT32_MAX;
-    most_written = data[1] & 128 ? OUTPUT : 1 << data[1] / 8;
-    room = data[2] & 128 ? least(OUTPUT >> data[2] % 8, 2048 * most_written) : data[2];
-    line = data + MANNER;
-    line_size = size - MANNER;
-    line_at = output_size = error_size = 0;
-    read_failed = write_failed = 0;
-    programs[program]();
+    run_program(programs[program], data, size);
     judge(program);
     return 0;
 }
 
 /* ---- Lines that are right or nearly so ---- */
-
-size_t LLVMFuzzerMutate(uint8_t *data, size_t size, size_t max_size);
-
-static uint64_t state;
-
-static uint64_t below(uint64_t bound)
-{
-    state = state * 6364136223846793005u + 1442695040888963407u;
-    return (state >> 33) % bound;
-}
 
 /* A number that matters to some field, one beside the centre, or any up to it. */
 static uint64_t number_near(uint64_t centre)
@@ -298,48 +196,20 @@ static size_t right_line(char *text, size_t text_size)
     return size;
 }
 
-/* One byte put in, taken out or changed, or some put after the end. */
-static size_t damage(uint8_t *bytes, size_t size, size_t max_size)
-{
-    static const uint8_t choice[] = "0123456789009,,\n\n\r +-./:x\xff"; /* and NUL */
-    size_t at = below(size + 1), how = below(4);
-    uint8_t byte = choice[below(sizeof choice)];
-    if (how == 0 && size < max_size) {
-        memmove(bytes + at + 1, bytes + at, size - at);
-        bytes[at] = byte;
-        return size + 1;
-    }
-    if (at < size && how == 1) {
-        memmove(bytes + at, bytes + at + 1, size - at - 1);
-        return size - 1;
-    }
-    if (at < size && how == 2)
-        bytes[at] = byte;
-    if (how == 3)
-        for (size_t more = below(40); more > 0 && size < max_size; more--)
-            bytes[size++] = byte;
-    return size;
-}
-
 size_t LLVMFuzzerCustomMutator(uint8_t *data, size_t size, size_t max_size, unsigned seed)
 {
-    state = seed;
+    static const uint8_t choice[] = "0123456789009,,\n\n\r +-./:x\xff"; /* and NUL */
+    set_state(seed);
     if (below(8) == 0 || max_size < MANNER + 80)
         return LLVMFuzzerMutate(data, size, max_size);
     if (size < MANNER || below(4) > 0) {
         char text[80];
         size = right_line(text, sizeof text);
         memcpy(data + MANNER, text, size);
-        for (int k = 0; k < MANNER; k++)
-            data[k] = (uint8_t)below(256);
-        /* Most runs can read and print to the end. */
-        if (below(4) > 0) {
-            data[0] &= 127;
-            data[2] = 128;
-        }
+        put_manner(data);
         size += MANNER;
     }
     for (uint64_t more = below(3); more > 0; more--)
-        size = MANNER + damage(data + MANNER, size - MANNER, max_size - MANNER);
+        size = MANNER + damage(data + MANNER, size - MANNER, max_size - MANNER, choice, sizeof choice);
     return size;
 }

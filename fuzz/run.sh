@@ -1,9 +1,10 @@
 #!/bin/sh
 # Fuzzes with libFuzzer and ASan, for some seconds each: fuzz/run.sh [SECONDS], 60 without it.
-#   entry  the four functions of the archive;
-#   line   the line that the programs `rows` and `steps` read, and the shape of what they print.
+#   entry   the six functions of the archive;
+#   line    the line that the programs `rows` and `steps` read, and the shape of what they print;
+#   packed  the line and the bytes that the program `packed` reads, and what it prints.
 # SM3ROWS_LIB names the archive; without it, it is the one that `rt staticlib sm3rows` writes. The programs are the
-# objects that `rt check rows` and `rt check steps` leave.
+# objects that `rt check rows steps packed` leaves.
 set -eu
 
 root=$(cd "$(dirname "$0")/.." && pwd)
@@ -20,11 +21,11 @@ command -v objcopy > /dev/null || install binutils
 command -v clang > /dev/null || install clang
 
 # A program's object whose main, read and write have other names, for the harness to call and to answer.
-for program in rows steps; do
+for program in rows steps packed; do
     object=$root/target/obj/$program.o
     [ -f "$object" ] || { echo "no program: run 'rt check $program' first" >&2; exit 1; }
-    objcopy --redefine-sym "main=${program}_main" --redefine-sym read=line_read --redefine-sym write=line_write \
-        "$object" "$work/$program.o"
+    objcopy --redefine-sym "main=${program}_main" --redefine-sym read=program_read \
+        --redefine-sym write=program_write "$object" "$work/$program.o"
 done
 
 # build HARNESS OBJECTS..
@@ -37,24 +38,35 @@ build() {
 # clang's runtime for the sanitizers is a package of its own on some systems.
 build entry "$archive" 2> /dev/null ||
     { install "libclang-rt-$(clang -dumpversion | cut -d. -f1)-dev" && build entry "$archive"; }
-build line "$work/rows.o" "$work/steps.o"
+build line "$root/fuzz/program.c" "$work/rows.o" "$work/steps.o"
+build packed "$root/fuzz/program.c" "$work/packed.o" "$archive"
 
-# One input for each function, and some lines, to begin with.
-mkdir -p "$work/entry.corpus" "$work/line.corpus"
+# One input for each function, and some lines, to begin with; claims to `packed` are made by its harness.
+mkdir -p "$work/entry.corpus" "$work/line.corpus" "$work/packed.corpus"
 printf '\000\000\003\040\000abcabc' > "$work/entry.corpus/digest"
 printf '\001\200\200\000\000' > "$work/entry.corpus/row"
 printf '\002\003\200\000abcabc' > "$work/entry.corpus/produce"
-printf '\003\003\000\001\000\000\002\001\000\000\000\000\000\000\000\002abcabc' > "$work/entry.corpus/check"
+printf '\003\003\000\001\000\000\002\001\000\003abcabc' > "$work/entry.corpus/check"
+printf '\004\003\000\001\000\000\002\001\000\003abcabc' > "$work/entry.corpus/pack"
+printf '\005\003\000\005\200\000' > "$work/entry.corpus/unpack"
 printf '\000\200\2000,0,2\n' > "$work/line.corpus/rows"
 printf '\001\200\2001,255,4\n' > "$work/line.corpus/steps"
 printf '\000\200\2001016,0,0\n' > "$work/line.corpus/refused"
 printf '\002\200\2000,32832,1\n' > "$work/line.corpus/pieces"
+printf '\000\200\200%s,%064d\n' 1016 0 > "$work/packed.corpus/refused"
+printf '\000\200\200%s,%064d\n' 0 0 > "$work/packed.corpus/empty"
 
-# In the folder of the work, where a crashing input is then written.
+# In the folder of the work, where a crashing input is then written. A claim of one block to `packed` has up to 75 + 2,881
+# bytes, and inputs are that long from the start.
 cd "$work"
-for harness in entry line; do
+for harness in entry line packed; do
+    case $harness in
+    packed) sizes='-max_len=3100 -len_control=0' ;;
+    *) sizes=-max_len=1200 ;;
+    esac
     status=0
-    "./$harness" -max_total_time="$seconds" -max_len=1200 -timeout=60 -use_value_profile=1 -print_final_stats=1 \
+    # shellcheck disable=SC2086 # two options
+    "./$harness" -max_total_time="$seconds" $sizes -timeout=60 -use_value_profile=1 -print_final_stats=1 \
         -verbosity=0 "$harness.corpus" > "$harness.log" 2>&1 || status=$?
     if [ "$status" -ne 0 ]; then
         tail -n 40 "$harness.log"
@@ -62,6 +74,6 @@ for harness in entry line; do
         exit "$status"
     fi
     echo "fuzz: $harness"
-    grep -e '^stat::' -e '^line:' "$harness.log"
+    grep -e '^stat::' -e "^$harness:" "$harness.log"
 done
 echo "fuzz: no crash, no sanitizer report, no difference"

@@ -1,14 +1,14 @@
 #!/bin/sh
-# Compares libsm3rows.a and the programs `rows` and `steps` with the judge, and the digest with OpenSSL's too.
+# Compares libsm3rows.a and the programs `rows`, `steps` and `packed` with the judge, and the digest with OpenSSL's too.
 #
 #   tests/judge/run.sh [--short] [--seed N]      for the gate: a minute at most on two cores
 #   tests/judge/run.sh --full [--seed N]
 #   tests/judge/run.sh --soak MINUTES [--seed N]
 #   tests/judge/run.sh --tests                   the judge's own tests and those of the comparison
 #
-# SM3ROWS_LIB names the archive; without it, it is the one that `rt staticlib sm3rows` writes. ROWS_PROGRAM and
-# STEPS_PROGRAM name the programs; without them, they are the ones that `rt check rows steps` writes. All three must be
-# there.
+# SM3ROWS_LIB names the archive; without it, it is the one that `rt staticlib sm3rows` writes. ROWS_PROGRAM,
+# STEPS_PROGRAM and PACKED_PROGRAM name the programs; without them, they are the ones that `rt check rows steps packed`
+# writes. All four must be there.
 set -eu
 
 # present FILE COMMAND: the file is there; the command would write it.
@@ -20,9 +20,11 @@ root=$(cd "$(dirname "$0")/../.." && pwd)
 SM3ROWS_LIB=${SM3ROWS_LIB:-$root/target/staticlib/libsm3rows.a}
 rows=${ROWS_PROGRAM:-$root/target/bin/rows}
 steps=${STEPS_PROGRAM:-$root/target/bin/steps}
+packed=${PACKED_PROGRAM:-$root/target/bin/packed}
 present "$SM3ROWS_LIB" "rt staticlib sm3rows"
 present "$rows" "rt check rows"
 present "$steps" "rt check steps"
+present "$packed" "rt check packed"
 export SM3ROWS_LIB
 export CARGO_TARGET_DIR="$root/target/judge"
 
@@ -41,4 +43,4 @@ case " $* " in
 *" --full "* | *" --soak "*) limit=7200 ;;
 *) limit=300 ;;
 esac
-exec timeout "$limit" "$CARGO_TARGET_DIR/release/compare" --rows "$rows" --steps "$steps" "$@"
+exec timeout "$limit" "$CARGO_TARGET_DIR/release/compare" --rows "$rows" --steps "$steps" --packed "$packed" "$@"

@@ -1,22 +1,12 @@
 //! The check of an assignment against a digest: refusals 2, 5, 6, 7, 8, 9,
 //! in this order, straight over the rows.
 
+use crate::bits::bit;
 use crate::field;
 use crate::forms::{Row, RowNumber, RowTable, Term};
 use crate::length::Length;
 use crate::refusal::Refusal;
 use crate::rows;
-
-/// Every entry of an assignment, read modulo p.
-fn read_entries(assignment: &[u8]) -> Vec<u64> {
-    let entry = |eight: &[u8]| field::read_entry(eight.try_into().expect("eight bytes"));
-    assignment.chunks_exact(8).map(entry).collect()
-}
-
-/// Bit `number` of a digest, "the highest bit of a byte first".
-fn digest_bit(digest: &[u8], number: usize) -> u64 {
-    u64::from(digest[number / 8] >> (7 - number % 8) & 1)
-}
 
 /// The value of a weighted sum of wires.
 fn evaluate(sum: &[Term], entries: &[u64]) -> u64 {
@@ -44,10 +34,7 @@ fn check_sizes(length: Length, assignment: &[u8], digest: &[u8]) -> Result<(), R
     if digest.len() != 32 {
         return Err(Refusal::DigestBytes);
     }
-    if assignment.len() != length.assignment_bytes() {
-        return Err(Refusal::AssignmentBytes);
-    }
-    Ok(())
+    length.right_assignment(assignment)
 }
 
 /// Refusals 7 and 8: wire 0, then "Wires 1 to 256: digest".
@@ -55,7 +42,7 @@ fn check_digest_wires(entries: &[u64], digest: &[u8]) -> Result<(), Refusal> {
     if entries[0] != 1 {
         return Err(Refusal::WireZero);
     }
-    if (0..256).any(|number| entries[1 + number] != digest_bit(digest, number)) {
+    if (0..256).any(|number| entries[1 + number] != bit(digest, number)) {
         return Err(Refusal::DigestWire);
     }
     Ok(())
@@ -70,7 +57,7 @@ pub fn check_with(
     digest: &[u8],
 ) -> Result<(), Refusal> {
     check_sizes(length, assignment, digest)?;
-    let entries = read_entries(assignment);
+    let entries = field::read_entries(assignment);
     check_digest_wires(&entries, digest)?;
     match lowest_unsatisfied(table, &entries) {
         Some(number) => Err(Refusal::Unsatisfied(number)),

@@ -7,6 +7,12 @@ pub fn read_entry(bytes: [u8; 8]) -> u64 {
     u64::from_le_bytes(bytes) % P
 }
 
+/// Every entry of an assignment, in wire order.
+pub fn read_entries(assignment: &[u8]) -> Vec<u64> {
+    let entry = |eight: &[u8]| read_entry(eight.try_into().expect("eight bytes"));
+    assignment.chunks_exact(8).map(entry).collect()
+}
+
 /// A small whole number, negative ones too, as a number from 0 to p - 1.
 pub fn from_signed(number: i64) -> u64 {
     number.rem_euclid(P as i64) as u64

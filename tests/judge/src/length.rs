@@ -46,4 +46,18 @@ impl Length {
     pub fn assignment_bytes(self) -> usize {
         8 * self.wires()
     }
+
+    /// The bytes of a packed assignment: "the wires over 8 rounded up".
+    pub fn packed_bytes(self) -> usize {
+        self.wires().div_ceil(8)
+    }
+
+    /// Refusal 6: "An assignment of 8-byte entries handed over to be read is
+    /// not exactly 8 × wires bytes."
+    pub fn right_assignment(self, assignment: &[u8]) -> Result<(), Refusal> {
+        if assignment.len() != self.assignment_bytes() {
+            return Err(Refusal::AssignmentBytes);
+        }
+        Ok(())
+    }
 }

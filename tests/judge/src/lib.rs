@@ -1,8 +1,9 @@
 //! An outside judge for the paper "SM3 record rows over the prime 2^61 - 1".
 //!
-//! Everything here was written from that paper alone, but `steps`, whose
-//! program has its format from docs/STEPS.md. Sentences of the paper are
-//! quoted in the comments beside the code that follows them.
+//! Everything here was written from that paper alone and from the first of its
+//! change requests, "Packed assignments", but `steps`, whose program has its
+//! format from docs/STEPS.md. Sentences of the papers are quoted in the
+//! comments beside the code that follows them.
 //!
 //! * `sm3`: the hash, and every word it computes on the way ("SM3 as used").
 //! * `length`: lengths in range and the counts of blocks, wires and rows.
@@ -12,12 +13,16 @@
 //! * `rows`: all rows of a length, by walking the blocks in wire order.
 //! * `check`: the check of an assignment against a digest.
 //! * `operations`: digest, row and produce on lent buffers.
+//! * `packing`: pack and unpack on lent buffers.
+//! * `packed`: the input and the output of the program `packed`.
 //! * `listing`: the input line and the output of the program `rows`.
 //! * `steps`: the output of the program `steps`, which step a row stands for.
-//! * `refusal`: the nine refusals. `field`: numbers modulo p.
+//! * `refusal`: the twelve refusals. `field`: numbers modulo p. `bits`: the
+//!   bits of bytes.
 
 #![forbid(unsafe_code)]
 
+pub mod bits;
 pub mod check;
 pub mod field;
 pub mod forms;
@@ -25,6 +30,8 @@ pub mod layout;
 pub mod length;
 pub mod listing;
 pub mod operations;
+pub mod packed;
+pub mod packing;
 pub mod refusal;
 pub mod rows;
 pub mod sm3;

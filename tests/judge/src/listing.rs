@@ -15,7 +15,7 @@ pub struct Request {
 
 /// One "decimal number of 1 to 9 digits, without leading zeros". The number
 /// 0 is the one digit 0.
-fn number(field: &[u8]) -> Option<u64> {
+pub(crate) fn number(field: &[u8]) -> Option<u64> {
     let digits = (1..=9).contains(&field.len()) && field.iter().all(u8::is_ascii_digit);
     let leading_zero = field.len() > 1 && field[0] == b'0';
     if !digits || leading_zero {

@@ -1,6 +1,7 @@
 //! `judge rows`: reads the line of the program `rows` on standard input and
 //! prints what that program must print.
 //! `judge steps`: the same for the program `steps`.
+//! `judge packed`: the same for the program `packed`, its line and bytes.
 //! `judge digest`: the digest of the bytes on standard input, in hexadecimal.
 //! `judge counts L`: blocks, wires and rows of a record length.
 
@@ -11,9 +12,10 @@ use judge::length::Length;
 use judge::listing::{listing, refused};
 use judge::operations;
 use judge::refusal::Refusal;
-use judge::steps;
+use judge::{packed, steps};
 
-const USAGE: &str = "usage: judge rows | judge steps | judge digest | judge counts L";
+const USAGE: &str =
+    "usage: judge rows | judge steps | judge packed | judge digest | judge counts L";
 
 fn standard_input() -> io::Result<Vec<u8>> {
     let mut bytes = Vec::new();
@@ -40,6 +42,7 @@ fn answer(arguments: &[String]) -> io::Result<Option<String>> {
     let text = match words[..] {
         ["rows"] => listing(&standard_input()?),
         ["steps"] => steps::listing(&standard_input()?),
+        ["packed"] => packed::answer(&standard_input()?),
         ["digest"] => digest_text(&standard_input()?).unwrap_or_else(refused),
         ["counts", length] => match length.parse() {
             Ok(length) => counts_text(length).unwrap_or_else(refused),

@@ -1,6 +1,6 @@
-//! The three operations that write into a lent buffer. "Each refusal returns
-//! its number and nothing else; no lent byte changes." "Bytes of a written
-//! buffer past its result keep their value."
+//! The three operations of the base that write into a lent buffer. "Each
+//! refusal returns its number and nothing else; no lent byte changes." "Bytes
+//! of a written buffer past its result keep their value."
 
 use crate::forms::{Row, RowNumber, RowTable, Term};
 use crate::layout;
@@ -14,7 +14,8 @@ use crate::sm3;
 pub const DIGEST_BYTES: usize = 32;
 pub const ROW_BYTES: usize = 1956;
 
-fn long_enough(buffer: &[u8], bytes: usize) -> Result<(), Refusal> {
+/// Refusal 4, "any other written buffer shorter than its result" too.
+pub(crate) fn long_enough(buffer: &[u8], bytes: usize) -> Result<(), Refusal> {
     if buffer.len() < bytes {
         return Err(Refusal::Buffer);
     }

@@ -1,7 +1,8 @@
-//! "Refusals in checking order". Each has a number; refusal 9 alone carries
-//! more, "the lowest row that is not satisfied is returned with it".
+//! "Refusals in checking order", and those that packing adds. Each has a
+//! number. Two carry more: 9 "the lowest row that is not satisfied", and 10 the
+//! "lowest wire".
 
-use crate::forms::RowNumber;
+use crate::forms::{RowNumber, Wire};
 
 #[derive(Clone, Copy, Debug, PartialEq, Eq)]
 pub enum Refusal {
@@ -23,6 +24,12 @@ pub enum Refusal {
     DigestWire,
     /// 9. A row is not satisfied; this is the lowest one.
     Unsatisfied(RowNumber),
+    /// 10. An entry reads neither 0 nor 1; this is the lowest one's wire.
+    NoBit(Wire),
+    /// 11. The packed length is not the wires over 8 rounded up.
+    PackedBytes,
+    /// 12. A spare bit is set.
+    SpareBit,
 }
 
 impl Refusal {
@@ -38,6 +45,9 @@ impl Refusal {
             Refusal::WireZero => 7,
             Refusal::DigestWire => 8,
             Refusal::Unsatisfied(_) => 9,
+            Refusal::NoBit(_) => 10,
+            Refusal::PackedBytes => 11,
+            Refusal::SpareBit => 12,
         }
     }
 }

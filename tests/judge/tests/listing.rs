@@ -3,12 +3,9 @@
 
 mod support;
 
-use std::io::Write;
-use std::process::{Command, Stdio};
-
 use judge::listing::listing;
 use judge::{rows, steps};
-use support::length;
+use support::{length, run};
 
 const HEADER: &str = "row,part,wire,coefficient\n";
 
@@ -125,17 +122,6 @@ fn a_whole_listing_reads_back_as_the_rows() {
         }
     }
     assert_eq!(lines.next(), None);
-}
-
-fn run(arguments: &[&str], input: &[u8]) -> String {
-    let mut child = Command::new(env!("CARGO_BIN_EXE_judge"))
-        .args(arguments)
-        .stdin(Stdio::piped())
-        .stdout(Stdio::piped())
-        .spawn()
-        .unwrap();
-    child.stdin.take().unwrap().write_all(input).unwrap();
-    String::from_utf8(child.wait_with_output().unwrap().stdout).unwrap()
 }
 
 #[test]

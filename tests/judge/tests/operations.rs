@@ -5,14 +5,7 @@ mod support;
 use judge::operations::{digest, produce, row, row_with, Counts, ROW_BYTES};
 use judge::refusal::Refusal;
 use judge::{layout, rows, sm3};
-use support::{length, record, LENGTHS};
-
-/// Buffers are lent full of this byte, to see what stays.
-const OLD: u8 = 0xa5;
-
-fn untouched(buffer: &[u8]) -> bool {
-    buffer.iter().all(|&byte| byte == OLD)
-}
+use support::{length, record, untouched, LENGTHS, OLD};
 
 #[test]
 fn digest_writes_32_bytes() {

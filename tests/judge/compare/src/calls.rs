@@ -7,10 +7,10 @@ use judge::forms::{Row, RowTable};
 use judge::length::Length;
 use judge::operations::{self, Counts};
 use judge::refusal::Refusal;
-use judge::sm3;
+use judge::{packing, sm3};
 
+use crate::answers::{self, told};
 use crate::lent::Lent;
-use crate::packing::{self, told};
 use crate::random::Random;
 use crate::tally::{Operation, Tally};
 
@@ -18,6 +18,17 @@ use crate::tally::{Operation, Tally};
 pub struct Calls {
     pub random: Random,
     pub tally: Tally,
+}
+
+type Judge<'a> = dyn Fn(&[u8], &mut [u8]) -> Result<(), Refusal> + 'a;
+type Library<'a> = dyn Fn(Empty, &[u8], &mut [u8]) -> u64 + 'a;
+
+/// A call that reads one slice and writes another, of both sides.
+struct Written<'a> {
+    operation: Operation,
+    what: &'a str,
+    judge: &'a Judge<'a>,
+    library: &'a Library<'a>,
 }
 
 impl Calls {
@@ -53,40 +64,89 @@ impl Calls {
         }
     }
 
-    /// The digest of a record into a buffer of that length. Where there is a
-    /// result, OpenSSL's must be the same.
-    pub fn digest(&mut self, record: &[u8], out_len: usize) {
-        let what = format!("record of {} bytes, buffer of {out_len}", record.len());
-        let lent = Lent::holding(record, &mut self.random);
+    /// A call that reads one slice and writes a buffer of that length.
+    fn written(&mut self, call: Written<'_>, read: &[u8], out_len: usize) -> Result<(), Refusal> {
+        let (operation, what) = (
+            call.operation,
+            format!("{}, buffer of {out_len}", call.what),
+        );
+        let lent = Lent::holding(read, &mut self.random);
         let (before, empty) = (lent.clone(), self.empty());
         let mut out = Lent::buffer(out_len, &mut self.random);
         let mut must = out.clone();
-        let judged = operations::digest(record, must.slice_mut());
-        let answer = host::digest(empty, lent.slice(), out.slice_mut());
-        self.answers(Operation::Digest, packing::plain(judged), answer, &what);
-        self.memory(Operation::Digest, "record", &before, &lent, &what);
-        self.memory(Operation::Digest, "buffer", &must, &out, &what);
-        if judged.is_ok() {
+        let judged = (call.judge)(read, must.slice_mut());
+        let answer = (call.library)(empty, lent.slice(), out.slice_mut());
+        self.answers(operation, answers::plain(judged), answer, &what);
+        self.memory(operation, "read slice", &before, &lent, &what);
+        self.memory(operation, "buffer", &must, &out, &what);
+        judged
+    }
+
+    /// The digest of a record into a buffer of that length. Where there is a
+    /// result, OpenSSL's must be the same.
+    pub fn digest(&mut self, record: &[u8], out_len: usize) {
+        let call = Written {
+            operation: Operation::Digest,
+            what: &format!("record of {} bytes", record.len()),
+            judge: &operations::digest,
+            library: &host::digest,
+        };
+        if self.written(call, record, out_len).is_ok() {
             self.tally.count("digests compared with OpenSSL's", 1);
             if host::openssl::one_call(record) != sm3::hash(record) {
-                let text = format!("Digest, {what}: OpenSSL and the judge differ");
-                self.tally.difference(text);
+                let bytes = record.len();
+                self.tally.difference(format!(
+                    "Digest, record of {bytes} bytes: OpenSSL and the judge differ"
+                ));
             }
         }
     }
 
     /// The assignment of a record into a buffer of that length.
     pub fn produce(&mut self, record: &[u8], out_len: usize) {
-        let what = format!("record of {} bytes, buffer of {out_len}", record.len());
-        let lent = Lent::holding(record, &mut self.random);
-        let (before, empty) = (lent.clone(), self.empty());
-        let mut out = Lent::buffer(out_len, &mut self.random);
-        let mut must = out.clone();
-        let judged = packing::plain(operations::produce(record, must.slice_mut()));
-        let answer = host::produce(empty, lent.slice(), out.slice_mut());
-        self.answers(Operation::Produce, judged, answer, &what);
-        self.memory(Operation::Produce, "record", &before, &lent, &what);
-        self.memory(Operation::Produce, "buffer", &must, &out, &what);
+        let call = Written {
+            operation: Operation::Produce,
+            what: &format!("record of {} bytes", record.len()),
+            judge: &operations::produce,
+            library: &host::produce,
+        };
+        let _ = self.written(call, record, out_len);
+    }
+
+    /// The packed bytes of an assignment into a buffer of that length. Returns
+    /// the judge's answer.
+    pub fn pack(
+        &mut self,
+        length: u64,
+        assignment: &[u8],
+        out_len: usize,
+        note: &str,
+    ) -> Result<(), Refusal> {
+        let call = Written {
+            operation: Operation::Pack,
+            what: &format!("length {length}, {} bytes, {note}", assignment.len()),
+            judge: &|assignment, out| packing::pack(length, assignment, out),
+            library: &|empty, assignment, out| host::pack(empty, length, assignment, out),
+        };
+        self.written(call, assignment, out_len)
+    }
+
+    /// The entries of packed bytes into a buffer of that length. Returns the
+    /// judge's answer.
+    pub fn unpack(
+        &mut self,
+        length: u64,
+        packed: &[u8],
+        out_len: usize,
+        note: &str,
+    ) -> Result<(), Refusal> {
+        let call = Written {
+            operation: Operation::Unpack,
+            what: &format!("length {length}, {} bytes, {note}", packed.len()),
+            judge: &|packed, out| packing::unpack(length, packed, out),
+            library: &|empty, packed, out| host::unpack(empty, length, packed, out),
+        };
+        self.written(call, packed, out_len)
     }
 
     /// One row into a buffer of that length. The table must be that of the
@@ -117,7 +177,7 @@ impl Calls {
         let mut must = out.clone();
         let judged = judge(must.slice_mut());
         let answer = host::row(empty, length, row, out.slice_mut());
-        self.answers(Operation::Row, packing::row(judged), answer, &what);
+        self.answers(Operation::Row, answers::row(judged), answer, &what);
         self.memory(Operation::Row, "buffer", &must, &out, &what);
     }
 
@@ -152,7 +212,7 @@ impl Calls {
         let (held_before, read_before) = (held.clone(), read.clone());
         let empty = self.empty();
         let answer = host::check(empty, length, held.slice(), read.slice());
-        self.answers(Operation::Check, packing::plain(known), answer, &what);
+        self.answers(Operation::Check, answers::plain(known), answer, &what);
         self.memory(Operation::Check, "digest", &held_before, &held, &what);
         self.memory(Operation::Check, "assignment", &read_before, &read, &what);
         if let Err(Refusal::Unsatisfied(row)) = known {
@@ -171,7 +231,7 @@ impl Calls {
         let (digest, assignment) = (&lent.slice()[at..at + 32], lent.slice());
         let judged = check_with(table, length, assignment, digest);
         let answer = host::check(Empty::Null, length.bytes() as u64, digest, assignment);
-        self.answers(Operation::Check, packing::plain(judged), answer, &what);
+        self.answers(Operation::Check, answers::plain(judged), answer, &what);
         self.memory(Operation::Check, "assignment", &before, &lent, &what);
         self.tally.count("checks with slices that overlap", 1);
     }

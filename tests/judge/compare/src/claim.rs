@@ -1,5 +1,6 @@
 //! A claim: an assignment with the digest that it is held against.
 
+use judge::bits::bit;
 use judge::field::P;
 use judge::forms::RowTable;
 use judge::length::Length;
@@ -64,8 +65,7 @@ impl Claim {
     /// The digest wires take the digest's bits.
     pub fn set_digest_wires(&mut self) {
         for number in 0..256 {
-            let bit = self.digest[number / 8] >> (7 - number % 8) & 1;
-            self.set(1 + number, u64::from(bit));
+            self.set(1 + number, bit(&self.digest, number));
         }
     }
 

@@ -29,6 +29,23 @@ pub const WAYS: [(&str, Damage); 11] = [
 pub const BLOCK: usize = 22_528;
 pub const FIRST: usize = 513;
 
+/// Numbers that read neither 0 nor 1. Some would in their lowest byte or half,
+/// or in 61 bits.
+pub const NO_BITS: [u64; 12] = [
+    2,
+    3,
+    0x100,
+    (1 << 32) + 1,
+    1 << 60,
+    P - 1,
+    P + 2,
+    2 * P - 1,
+    8 * P + 2,
+    1 << 63,
+    (1 << 63) + 1,
+    u64::MAX,
+];
+
 /// A value to put in the place of another.
 fn value(old: u64, random: &mut Random) -> u64 {
     match random.below(10) {

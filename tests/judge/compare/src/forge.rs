@@ -3,6 +3,7 @@
 //! So only the rows that tie a turned wire to what came before it fail: a
 //! check that leaves out one row is found out by a wire turned there.
 
+use judge::bits::bit;
 use judge::length::Length;
 use judge::sm3::{self, Words};
 
@@ -92,7 +93,7 @@ pub fn forge(record: &[u8], turned: &[usize]) -> Claim {
         digest[(wire - 1) / 8] ^= 0x80 >> ((wire - 1) % 8);
     }
     for number in 0..256 {
-        forge.wires[1 + number] = digest[number / 8] >> (7 - number % 8) & 1 == 1;
+        forge.wires[1 + number] = bit(&digest, number) == 1;
     }
     let entry = |&wire: &bool| u64::from(wire).to_le_bytes();
     Claim {

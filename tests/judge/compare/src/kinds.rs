@@ -7,7 +7,7 @@ use judge::field::P;
 
 use crate::calls::Calls;
 use crate::claim::{Claim, Ground};
-use crate::damage::{BLOCK, FIRST};
+use crate::damage::{BLOCK, FIRST, NO_BITS};
 use crate::forge::forge;
 use crate::random::Random;
 use crate::sections::check;
@@ -114,8 +114,7 @@ fn same_residue(claim: &mut Claim, place: &Place, random: &mut Random) {
 }
 
 fn no_bit(claim: &mut Claim, place: &Place, random: &mut Random) {
-    let no_bits = [2, P - 1, P + 2, 2 * P - 1, 8 * P + 2, 1 << 63, u64::MAX];
-    put(claim, place.kind, place.wire, random.pick(&no_bits));
+    put(claim, place.kind, place.wire, random.pick(&NO_BITS));
 }
 
 /// Two neighbours change so that the number that the word's bits write stays

@@ -1,19 +1,24 @@
 //! Compares the C library libsm3rows.a with the judge and with OpenSSL, and
-//! the programs `rows` and `steps` with the judge.
+//! the programs `rows`, `steps` and `packed` with the judge.
 //!
-//! `compare --rows FILE --steps FILE [--short | --full] [--seed N] [--threads N]`
+//! `compare --rows FILE --steps FILE --packed FILE [--short | --full] [--seed N]
+//! [--threads N]`
 //! `compare --soak MINUTES [--seed N]`
 //!
 //! Leaves with 0 when nothing differs, with 1 when something does, with 2
 //! when the arguments are not understood.
 
+mod answers;
 mod calls;
 mod claim;
 mod damage;
 mod forge;
 mod kinds;
 mod lent;
+mod listings;
+mod packed;
 mod packing;
+
 mod plan;
 mod program;
 mod random;
@@ -22,6 +27,7 @@ mod sections;
 mod soak;
 mod tally;
 
+use std::collections::BTreeMap;
 use std::io::{stderr, IsTerminal, Write};
 use std::path::PathBuf;
 use std::process::ExitCode;
@@ -32,20 +38,16 @@ use std::time::{Duration, Instant};
 
 use calls::Calls;
 use plan::{Amounts, Job};
-use program::Program;
+use program::{Program, Programs};
 use tally::{Tally, TOLD};
 
 const USAGE: &str =
-    "usage: compare --rows FILE --steps FILE [--short | --full] [--seed N] [--threads N]
+    "usage: compare --rows FILE --steps FILE --packed FILE [--short | --full] [--seed N] [--threads N]
        compare --soak MINUTES [--seed N]";
 
 /// The form: a comparison, which needs the programs, or the soak.
 enum Form {
-    Compare {
-        full: bool,
-        rows: PathBuf,
-        steps: PathBuf,
-    },
+    Compare { full: bool, programs: Box<Programs> },
     Soak(Duration),
 }
 
@@ -55,9 +57,18 @@ struct Options {
     threads: usize,
 }
 
+/// The programs by the options that name their files.
+fn programs(mut files: BTreeMap<&str, PathBuf>) -> Option<Programs> {
+    Some(Programs {
+        rows: Program::rows(files.remove("--rows")?),
+        steps: Program::steps(files.remove("--steps")?),
+        packed: Program::packed(files.remove("--packed")?),
+    })
+}
+
 fn options(arguments: &[String]) -> Option<Options> {
     let (mut full, mut minutes, mut seed) = (false, None, 1);
-    let (mut rows, mut steps) = (None, None);
+    let mut files = BTreeMap::new();
     let mut threads = thread::available_parallelism().map_or(1, |n| n.get());
     let mut words = arguments.iter().map(String::as_str);
     while let Some(word) = words.next() {
@@ -67,8 +78,9 @@ fn options(arguments: &[String]) -> Option<Options> {
             "--soak" => minutes = Some(words.next()?.parse::<f64>().ok()?),
             "--seed" => seed = words.next()?.parse().ok()?,
             "--threads" => threads = words.next()?.parse().ok()?,
-            "--rows" => rows = Some(words.next()?.into()),
-            "--steps" => steps = Some(words.next()?.into()),
+            "--rows" | "--steps" | "--packed" => {
+                files.insert(word, PathBuf::from(words.next()?));
+            }
             _ => return None,
         }
     }
@@ -76,8 +88,7 @@ fn options(arguments: &[String]) -> Option<Options> {
         Some(minutes) => Form::Soak(Duration::try_from_secs_f64(60.0 * minutes).ok()?),
         None => Form::Compare {
             full,
-            rows: rows?,
-            steps: steps?,
+            programs: Box::new(programs(files)?),
         },
     };
     Some(Options {
@@ -127,7 +138,7 @@ fn compare(jobs: &[Job], seed: u64, threads: usize) -> Tally {
 }
 
 /// The comparison with its report. True when nothing differs.
-fn report(full: bool, rows: PathBuf, steps: PathBuf, seed: u64, threads: usize) -> bool {
+fn report(full: bool, programs: &Programs, seed: u64, threads: usize) -> bool {
     let (amounts, form) = if full {
         (Amounts::full(), "full")
     } else {
@@ -135,7 +146,7 @@ fn report(full: bool, rows: PathBuf, steps: PathBuf, seed: u64, threads: usize) 
     };
     println!("{form} comparison, seed {seed}, {threads} threads");
     let begin = Instant::now();
-    let jobs = plan::jobs(&amounts, seed, Program::rows(rows), Program::steps(steps));
+    let jobs = plan::jobs(&amounts, seed, programs);
     let tally = compare(&jobs, seed, threads);
     println!("{tally}");
     for difference in tally.differences.iter().take(TOLD) {
@@ -157,7 +168,7 @@ fn main() -> ExitCode {
     };
     let (seed, threads) = (options.seed, options.threads);
     let same = match options.form {
-        Form::Compare { full, rows, steps } => report(full, rows, steps, seed, threads),
+        Form::Compare { full, programs } => report(full, &programs, seed, threads),
         Form::Soak(time) => soak::soak(seed, time),
     };
     ExitCode::from(u8::from(!same))

@@ -1,18 +1,20 @@
 //! The two forms of the comparison as lists of jobs. Every job has a stream
 //! of random numbers of its own, so threads take jobs in any order.
 
-use judge::length::LONGEST;
+use judge::length::{Length, LONGEST};
 
 use crate::calls::Calls;
 use crate::claim::Ground;
-use crate::program::Program;
-use crate::{kinds, refusals, sections};
+use crate::program::{Program, Programs};
+use crate::{kinds, listings, packed, packing, refusals, sections};
 
 /// How much of everything.
 pub struct Amounts {
-    /// Digests, produced assignments and changed block bits at every length.
+    /// Digests, produced assignments, those packed and unpacked, and changed
+    /// block bits at every length.
     digests: usize,
     produced: usize,
+    packed: usize,
     block_bit_claims: usize,
     /// Rows and checks at lengths that are multiples of this, counted from
     /// one drawn by the seed, and at lengths beside block ends.
@@ -31,8 +33,10 @@ pub struct Amounts {
     kinds: Vec<(u64, usize)>,
     /// Lengths with all refusals, and how often each choice of faults.
     refused: Vec<(u64, usize)>,
-    /// Right lines, and as many damaged ones, to each program.
+    /// Right lines, and as many damaged ones, to `rows` and to `steps`.
     lines: usize,
+    /// Claims at random lengths, and as many damaged lines, to `packed`.
+    claims: usize,
 }
 
 impl Amounts {
@@ -41,6 +45,7 @@ impl Amounts {
         Amounts {
             digests: 4,
             produced: 1,
+            packed: 1,
             block_bit_claims: 1,
             length_step: 8,
             sampled_rows: 200,
@@ -52,6 +57,7 @@ impl Amounts {
             kinds: vec![(55, 20), (119, 10), (1015, 1)],
             refused: vec![(0, 2), (56, 1)],
             lines: 40,
+            claims: 10,
         }
     }
 
@@ -62,6 +68,7 @@ impl Amounts {
         Amounts {
             digests: 64,
             produced: 4,
+            packed: 4,
             block_bit_claims: 6,
             length_step: 1,
             sampled_rows: 1_000,
@@ -81,6 +88,7 @@ impl Amounts {
             kinds: vec![(0, 50), (55, 200), (119, 100), (500, 10), (1015, 5)],
             refused: vec![(0, 20), (55, 20), (56, 10), (500, 2), (1015, 2)],
             lines: 1_000,
+            claims: 200,
         }
     }
 }
@@ -113,7 +121,7 @@ fn sampled(amounts: &Amounts, seed: u64, length: u64) -> bool {
 
 /// All jobs. Those that take long stand first, so that no thread is left
 /// alone with one at the end.
-pub fn jobs(amounts: &Amounts, seed: u64, rows: Program, steps: Program) -> Vec<Job> {
+pub fn jobs(amounts: &Amounts, seed: u64, programs: &Programs) -> Vec<Job> {
     let mut jobs = Vec::new();
     for &length in amounts.tables.iter().rev() {
         jobs.push(job(
@@ -123,6 +131,18 @@ pub fn jobs(amounts: &Amounts, seed: u64, rows: Program, steps: Program) -> Vec<
             },
         ));
     }
+    claim_jobs(&mut jobs, amounts, seed);
+    refusal_jobs(&mut jobs, amounts);
+    packed_jobs(&mut jobs, amounts, &programs.packed);
+    listing_jobs(&mut jobs, amounts, seed, &programs.rows);
+    listing_jobs(&mut jobs, amounts, seed, &programs.steps);
+    length_jobs(&mut jobs, amounts, seed);
+    jobs
+}
+
+/// Claims damaged, changed kind by kind and with wires turned over, and those
+/// of other lengths.
+fn claim_jobs(jobs: &mut Vec<Job>, amounts: &Amounts, seed: u64) {
     for &(length, count) in amounts.damaged.iter().rev() {
         jobs.push(job(format!("damages at length {length}"), move |calls| {
             let ground = Ground::new(length);
@@ -143,17 +163,7 @@ pub fn jobs(amounts: &Amounts, seed: u64, rows: Program, steps: Program) -> Vec<
         ));
     }
     for &(length, step) in amounts.wires.iter().rev() {
-        wire_jobs(&mut jobs, length, step, amounts.several_wires, seed);
-    }
-    for &(length, times) in amounts.refused.iter().rev() {
-        jobs.push(job(format!("refusals at length {length}"), move |calls| {
-            let ground = Ground::new(length);
-            refusals::records(calls, length);
-            refusals::rows(calls, &ground);
-            refusals::checks(calls, &ground, times);
-            refusals::lengths_above(calls, &ground);
-            refusals::overlapping(calls, &ground, 4 * times);
-        }));
+        wire_jobs(jobs, length, step, amounts.several_wires, seed);
     }
     for length in [3, 55, 100] {
         jobs.push(job(
@@ -163,28 +173,74 @@ pub fn jobs(amounts: &Amounts, seed: u64, rows: Program, steps: Program) -> Vec<
             },
         ));
     }
-    program_jobs(&mut jobs, amounts, seed, &rows);
-    program_jobs(&mut jobs, amounts, seed, &steps);
-    length_jobs(&mut jobs, amounts, seed);
-    jobs
 }
 
-/// A program: right and damaged lines, all rows of some lengths, and the block
-/// bits where the record ends at the sampled lengths.
-fn program_jobs(jobs: &mut Vec<Job>, amounts: &Amounts, seed: u64, program: &Program) {
+/// All refusals of the library.
+fn refusal_jobs(jobs: &mut Vec<Job>, amounts: &Amounts) {
+    for &(length, times) in amounts.refused.iter().rev() {
+        jobs.push(job(format!("refusals at length {length}"), move |calls| {
+            let ground = Ground::new(length);
+            refusals::records(calls, length);
+            refusals::rows(calls, &ground);
+            refusals::checks(calls, &ground, times);
+            refusals::lengths_above(calls, &ground);
+            refusals::overlapping(calls, &ground, 4 * times);
+        }));
+        let name = format!("refusals of packing at length {length}");
+        jobs.push(job(name, move |calls| {
+            let length = Length::new(length).expect("a length in range");
+            packing::refusals(calls, length, times);
+            packing::no_bits(calls, length, times);
+            packing::spare_bits(calls, length);
+            packing::all_sizes(calls, length);
+            packing::lengths_above(calls, length);
+        }));
+    }
+}
+
+/// The program `packed`: claims of some lengths, bad lines, and every refusal.
+fn packed_jobs(jobs: &mut Vec<Job>, amounts: &Amounts, program: &Program) {
+    for length in [1015, 120, 119, 56, 55, 0] {
+        let program = program.clone();
+        let name = format!("claims of length {length} to packed");
+        jobs.push(job(name, move |calls| {
+            packed::claims(&program, calls, length);
+        }));
+    }
+    for &(length, times) in amounts.refused.iter().rev() {
+        let program = program.clone();
+        let name = format!("refusals of packed at length {length}");
+        jobs.push(job(name, move |calls| {
+            packed::faults(&program, calls, length, times);
+        }));
+    }
+    let (program, count) = (program.clone(), amounts.claims);
+    jobs.push(job(String::from("lines to packed"), move |calls| {
+        packed::bad_lines(&program, calls);
+        packed::random(&program, calls, count);
+    }));
+}
+
+/// `rows` or `steps`: right and damaged lines, all rows of some lengths, and the
+/// block bits where the record ends at the sampled lengths.
+fn listing_jobs(jobs: &mut Vec<Job>, amounts: &Amounts, seed: u64, program: &Program) {
     for &length in amounts.tables.iter().rev() {
         let name = format!("all rows of length {length} by {}", program.name);
         let program = program.clone();
-        jobs.push(job(name, move |calls| program.all_rows(calls, length)));
+        jobs.push(job(name, move |calls| {
+            listings::all_rows(&program, calls, length);
+        }));
     }
     let (lines, count) = (program.clone(), amounts.lines);
     jobs.push(job(format!("lines to {}", program.name), move |calls| {
-        lines.lines(calls, count);
+        listings::lines(&lines, calls, count);
     }));
     for length in (0..=LONGEST).filter(|&length| sampled(amounts, seed, length)) {
         let name = format!("the end of a record of {length} bytes by {}", program.name);
         let program = program.clone();
-        jobs.push(job(name, move |calls| program.record_end(calls, length)));
+        jobs.push(job(name, move |calls| {
+            listings::record_end(&program, calls, length);
+        }));
     }
 }
 
@@ -218,6 +274,7 @@ fn length_jobs(jobs: &mut Vec<Job>, amounts: &Amounts, seed: u64) {
     let Amounts {
         digests,
         produced,
+        packed,
         block_bit_claims,
         sampled_rows,
         some_damages,
@@ -228,12 +285,15 @@ fn length_jobs(jobs: &mut Vec<Job>, amounts: &Amounts, seed: u64) {
         jobs.push(job(format!("length {length}"), move |calls| {
             sections::digests(calls, length, digests);
             sections::produced(calls, length, produced);
+            packing::records(calls, length, packed);
             sections::block_bit_rows(calls, length);
             sections::block_bit_claims(calls, length, block_bit_claims);
             if rows {
                 let ground = Ground::new(length);
                 sections::sampled_rows(calls, &ground, sampled_rows);
                 refusals::limits(calls, &ground);
+                packing::limits(calls, ground.length);
+                packing::random_bytes(calls, ground.length);
                 sections::right_claims(calls, &ground);
                 sections::some_damages(calls, &ground, some_damages);
             }

@@ -1,84 +1,52 @@
-//! The programs `rows` and `steps`, by their standard input and output: the
-//! parser, which is the same for both, and the listings.
+//! A program by its standard input and output, beside the judge.
 
 use std::io::Write;
 use std::path::{Path, PathBuf};
 use std::process::{Command, Stdio};
+use std::thread;
+use std::time::Duration;
 
-use judge::length::Length;
-use judge::{listing, steps};
+use judge::{listing, packed, steps};
 
 use crate::calls::Calls;
 use crate::random::Random;
-use crate::sections::{BLOCK_ROWS, START_ROWS};
 
-/// A program, and what the judge has it print for a line.
+/// A program, and what the judge has it print for an input.
 #[derive(Clone)]
 pub struct Program {
     pub name: &'static str,
     file: PathBuf,
-    listing: fn(&[u8]) -> String,
-    /// What its lines are counted as, those given and those printed.
+    judge: fn(&[u8]) -> String,
+    /// What its inputs are counted as, and what it prints.
     given: &'static str,
-    printed: &'static str,
+    printed: fn(&str) -> (&'static str, u64),
 }
 
-/// Lines that meet one clause each of the line's rule, its figures, and lines
-/// with the faults of several refusals.
-const LINES: [&str; 43] = [
-    "0,0,2\n",
-    "0,0,0\n",
-    "0,32832,0\n",
-    "0,32831,1\n",
-    "0,32832,1\n",
-    "0,32833,0\n",
-    "0,0,32833\n",
-    "1015,517631,1\n",
-    "1015,517632,0\n",
-    "1016,0,0\n",
-    "1016,999999999,999999999\n",
-    "999999999,0,0\n",
-    "1000000000,0,0\n",
-    "0,1000000000,0\n",
-    "0,0,1000000000\n",
-    "00,0,0\n",
-    "0,00,0\n",
-    "0,0,00\n",
-    "01,0,0\n",
-    "0,0\n",
-    "0,0,0,0\n",
-    ",0,0\n",
-    "0,,0\n",
-    "0,0,\n",
-    "0,0,0",
-    "0,0,0\n\n",
-    "0,0,0\r\n",
-    "0,0,0\n0",
-    " 0,0,0\n",
-    "0,0, 0\n",
-    "-1,0,0\n",
-    "+1,0,0\n",
-    "",
-    "\n",
-    "0;0;0\n",
-    "0x1,0,0\n",
-    "1015,517631,2\n",
-    "1015,517632,1\n",
-    "1015,999999999,999999999\n",
-    "1016,0,0",
-    "1016,00,0\n",
-    "0,32833,0\n\n",
-    "1016,999999999,1000000000\n",
-];
+/// All programs that are compared.
+pub struct Programs {
+    pub rows: Program,
+    pub steps: Program,
+    pub packed: Program,
+}
 
-fn run(program: &Path, input: &[u8]) -> std::io::Result<Vec<u8>> {
+/// How long a program has to read the first part of an input before the
+/// second is written.
+const PAUSE: Duration = Duration::from_millis(20);
+
+/// What a program prints for an input that comes in two parts.
+fn run(program: &Path, input: &[u8], cut: usize) -> std::io::Result<Vec<u8>> {
     let mut child = Command::new(program)
         .stdin(Stdio::piped())
         .stdout(Stdio::piped())
         .spawn()?;
     let mut stdin = child.stdin.take().expect("a pipe");
+    let (first, second) = input.split_at(cut);
     // A program that refuses early may close its input: no failure.
-    let _ = stdin.write_all(input);
+    let _ = stdin.write_all(first);
+    if !second.is_empty() {
+        thread::sleep(PAUSE);
+        let _ = stdin.write_all(second);
+    }
     drop(stdin);
     Ok(child.wait_with_output()?.stdout)
 }
@@ -97,29 +65,40 @@ fn first_difference(judged: &str, printed: &str) -> Option<String> {
     }
 }
 
-/// A right line of few rows.
-fn right_line(random: &mut Random) -> Vec<u8> {
-    let length = random.below(1016) as u64;
-    let rows = Length::new(length).map_or(0, Length::rows);
-    let first = random.below(rows);
-    let how_many = random.below(40.min(rows - first + 1));
-    format!("{length},{first},{how_many}\n").into_bytes()
-}
-
-/// A right line with one to three bytes changed, put in or taken out.
-fn damaged_line(random: &mut Random) -> Vec<u8> {
-    const BYTES: &[u8] = b"0123456789,,,\n\r +-.x\0\xff";
-    let mut line = right_line(random);
+/// An input with one to three bytes changed, put in or taken out; a byte is
+/// one of those given.
+pub fn damaged(mut input: Vec<u8>, bytes: &[u8], random: &mut Random) -> Vec<u8> {
     for _ in 0..random.range(1, 4) {
-        let at = random.below(line.len().max(1));
+        let at = random.below(input.len().max(1));
         match random.below(3) {
-            0 => line.insert(at, random.pick(BYTES)),
-            1 if !line.is_empty() => line[at] = random.pick(BYTES),
-            _ if !line.is_empty() => drop(line.remove(at)),
+            0 => input.insert(at, random.pick(bytes)),
+            1 if !input.is_empty() => input[at] = random.pick(bytes),
+            _ if !input.is_empty() => drop(input.remove(at)),
             _ => {}
         }
     }
-    line
+    input
+}
+
+/// How many lines a listing has.
+fn lines(listing: &str) -> u64 {
+    listing.lines().count() as u64
+}
+
+/// An answer of `packed`, by its name in the tally.
+fn answer(text: &str) -> (&'static str, u64) {
+    let name = match text.trim_end() {
+        "accepted" => "claims that the program packed accepted",
+        "refused,1" => "claims to the program packed: refusal 1",
+        "refused,2" => "claims to the program packed: refusal 2",
+        "refused,7" => "claims to the program packed: refusal 7",
+        "refused,8" => "claims to the program packed: refusal 8",
+        "refused,9" => "claims to the program packed: refusal 9",
+        "refused,11" => "claims to the program packed: refusal 11",
+        "refused,12" => "claims to the program packed: refusal 12",
+        _ => "claims to the program packed: another answer",
+    };
+    (name, 1)
 }
 
 impl Program {
@@ -127,9 +106,9 @@ impl Program {
         Program {
             name: "rows",
             file,
-            listing: listing::listing,
+            judge: listing::listing,
             given: "lines to the program rows",
-            printed: "lines that the program rows printed",
+            printed: |text| ("lines that the program rows printed", lines(text)),
         }
     }
 
@@ -137,55 +116,45 @@ impl Program {
         Program {
             name: "steps",
             file,
-            listing: steps::listing,
+            judge: steps::listing,
             given: "lines to the program steps",
-            printed: "lines that the program steps printed",
+            printed: |text| ("lines that the program steps printed", lines(text)),
         }
     }
 
-    /// One line, to the program and to the judge.
-    fn line(&self, calls: &mut Calls, line: &[u8]) {
-        let judged = (self.listing)(line);
-        let told = match run(&self.file, line) {
+    pub fn packed(file: PathBuf) -> Program {
+        Program {
+            name: "packed",
+            file,
+            judge: packed::answer,
+            given: "claims to the program packed",
+            printed: answer,
+        }
+    }
+
+    /// One input, to the program and to the judge. Returns what the judge has
+    /// it print.
+    pub fn compare(&self, calls: &mut Calls, input: &[u8], note: &str) -> String {
+        self.compare_cut(calls, input, input.len(), note)
+    }
+
+    /// The same with an input that comes in two parts, cut there.
+    pub fn compare_cut(&self, calls: &mut Calls, input: &[u8], cut: usize, note: &str) -> String {
+        let judged = (self.judge)(input);
+        let told = match run(&self.file, input, cut) {
             Ok(printed) => first_difference(&judged, &String::from_utf8_lossy(&printed)),
             Err(error) => Some(error.to_string()),
         };
         if let Some(told) = told {
-            let shown = String::from_utf8_lossy(&line[..line.len().min(60)]);
-            let name = self.name;
-            calls
-                .tally
-                .difference(format!("{name}, line {shown:?}: {told}"));
+            let shown = String::from_utf8_lossy(&input[..input.len().min(80)]);
+            let (name, bytes) = (self.name, input.len());
+            calls.tally.difference(format!(
+                "{name}, {note}, {bytes} bytes that begin {shown:?}: {told}"
+            ));
         }
         calls.tally.count(self.given, 1);
-        let lines = judged.lines().count() as u64;
-        calls.tally.count(self.printed, lines);
-    }
-
-    /// The fixed lines and so many random ones.
-    pub fn lines(&self, calls: &mut Calls, count: usize) {
-        for line in LINES {
-            self.line(calls, line.as_bytes());
-        }
-        self.line(calls, &[b'1'; 100_000]);
-        for _ in 0..count {
-            let right = right_line(&mut calls.random);
-            self.line(calls, &right);
-            let damaged = damaged_line(&mut calls.random);
-            self.line(calls, &damaged);
-        }
-    }
-
-    /// All rows of a length by one line.
-    pub fn all_rows(&self, calls: &mut Calls, bytes: u64) {
-        let rows = Length::new(bytes).map_or(0, Length::rows);
-        self.line(calls, format!("{bytes},0,{rows}\n").as_bytes());
-    }
-
-    /// The 512 block bits of the block in which the record ends: bits of the
-    /// record, then padding.
-    pub fn record_end(&self, calls: &mut Calls, bytes: u64) {
-        let first = START_ROWS + BLOCK_ROWS * (bytes / 64);
-        self.line(calls, format!("{bytes},{first},512\n").as_bytes());
+        let (printed, count) = (self.printed)(&judged);
+        calls.tally.count(printed, count);
+        judged
     }
 }

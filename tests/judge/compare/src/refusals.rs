@@ -10,7 +10,7 @@ use crate::calls::Calls;
 use crate::claim::{Claim, Ground};
 
 /// Lengths out of range; some would be in range after losing upper bits.
-const LENGTHS_OUT: [u64; 9] = [
+pub const LENGTHS_OUT: [u64; 9] = [
     1016,
     1017,
     1024,
@@ -90,6 +90,21 @@ pub fn rows(calls: &mut Calls, ground: &Ground) {
 /// The six refusals of a check, in their order.
 const CHECK_REFUSALS: [u8; 6] = [2, 5, 6, 7, 8, 9];
 
+/// Every choice of faults of these refusals, so many times.
+pub fn choices(refusals: &[u8], times: usize) -> impl Iterator<Item = Vec<u8>> + '_ {
+    let all = 1usize << refusals.len();
+    (0..all).cycle().take(all * times).map(move |choice| {
+        let chosen = |place: &usize| choice >> place & 1 == 1;
+        let places = (0..refusals.len()).filter(chosen);
+        places.map(|place| refusals[place]).collect()
+    })
+}
+
+/// What a call with these faults must answer: the first of them.
+pub fn first(faults: &[u8]) -> u8 {
+    faults.first().copied().unwrap_or(0)
+}
+
 /// A claim with the faults of these refusals, and what it is held against.
 struct Faulty {
     length: u64,
@@ -147,18 +162,16 @@ fn faulty(calls: &mut Calls, right: &Claim, length: u64, has: impl Fn(u8) -> boo
 /// the order of the refusals must be returned.
 pub fn checks(calls: &mut Calls, ground: &Ground, times: usize) {
     let right = ground.claim(&mut calls.random);
-    for choice in (0..64u8).cycle().take(64 * times) {
-        let place = |refusal| CHECK_REFUSALS.iter().position(|&r| r == refusal);
-        let has = |refusal| place(refusal).is_some_and(|place| choice >> place & 1 == 1);
+    for faults in choices(&CHECK_REFUSALS, times) {
+        let has = |refusal| faults.contains(&refusal);
         let Faulty {
             length,
             digest,
             assignment,
         } = faulty(calls, &right, ground.bytes(), has);
-        let faults: Vec<u8> = CHECK_REFUSALS.into_iter().filter(|&r| has(r)).collect();
         let note = format!("the faults of refusals {faults:?}");
         let judged = calls.check(&ground.table, length, &digest, &assignment, &note);
-        calls.must_be(faults.first().copied().unwrap_or(0), judged, &note);
+        calls.must_be(first(&faults), judged, &note);
         calls.tally.count("checks with every choice of faults", 1);
     }
 }

@@ -16,7 +16,7 @@ pub const START_ROWS: u64 = 256;
 pub const BLOCK_ROWS: u64 = 32_320;
 
 /// A record of that length: random, and now and then all zeros or all ones.
-fn record(calls: &mut Calls, length: u64) -> Vec<u8> {
+pub fn record(calls: &mut Calls, length: u64) -> Vec<u8> {
     let length = length as usize;
     match calls.random.below(8) {
         0 => vec![0; length],
@@ -26,7 +26,7 @@ fn record(calls: &mut Calls, length: u64) -> Vec<u8> {
 }
 
 /// The exact size or a longer one.
-fn enough(calls: &mut Calls, bytes: usize) -> usize {
+pub fn enough(calls: &mut Calls, bytes: usize) -> usize {
     let more = calls.random.range(1, 100);
     calls.random.pick(&[bytes, bytes + more])
 }

@@ -8,10 +8,11 @@ use std::time::{Duration, Instant};
 use host::Empty;
 use judge::check::check_with;
 use judge::operations::{self, DIGEST_BYTES, ROW_BYTES};
+use judge::packing;
 
+use crate::answers::{self, told};
 use crate::claim::{Claim, Ground};
 use crate::damage::WAYS;
-use crate::packing::{self, told};
 use crate::random::Random;
 
 /// By how many kB the process may vary once all its memory was used once.
@@ -22,10 +23,11 @@ const ROWS_A_LENGTH: usize = 500;
 /// What buffers hold before a call.
 const OLD: u8 = 0xa5;
 
-/// A record with its right claim.
+/// A record with its right claim, and that packed.
 struct Record {
     bytes: Vec<u8>,
     claim: Claim,
+    packed: Vec<u8>,
 }
 
 /// A row with the bytes of its terms and its answer.
@@ -36,11 +38,13 @@ struct Listed {
     answer: u64,
 }
 
-/// A claim with its answer.
+/// A claim with its answer, and that of packing it with the bytes.
 struct Checked {
     length: u64,
     claim: Claim,
     answer: u64,
+    pack_answer: u64,
+    packed: Vec<u8>,
 }
 
 /// All calls with their answers, and the buffers they write.
@@ -58,7 +62,7 @@ fn listed(ground: &Ground, row: u64) -> Listed {
         length: ground.bytes(),
         row,
         bytes,
-        answer: packing::row(answer),
+        answer: answers::row(answer),
     }
 }
 
@@ -69,10 +73,14 @@ fn checked(ground: &Ground, claim: Claim) -> Checked {
         &claim.assignment,
         &claim.digest,
     );
+    let mut packed = vec![OLD; ground.length.packed_bytes()];
+    let pack_judged = packing::pack(ground.bytes(), &claim.assignment, &mut packed);
     Checked {
         length: ground.bytes(),
         claim,
-        answer: packing::plain(judged),
+        answer: answers::plain(judged),
+        pack_answer: answers::plain(pack_judged),
+        packed,
     }
 }
 
@@ -87,13 +95,19 @@ impl Pool {
             }
             let bytes = random.bytes(length as usize);
             let claim = Claim::of(&bytes);
-            checks.push(checked(&ground, claim.clone()));
+            let right = checked(&ground, claim.clone());
+            let packed = right.packed.clone();
+            checks.push(right);
             for (_, damage) in WAYS {
                 let mut damaged = claim.clone();
                 damage(&ground, &mut damaged, random);
                 checks.push(checked(&ground, damaged));
             }
-            records.push(Record { bytes, claim });
+            records.push(Record {
+                bytes,
+                claim,
+                packed,
+            });
         }
         let longest = records.iter().map(|record| record.claim.assignment.len());
         let buffer = vec![OLD; longest.max().unwrap_or(0)];
@@ -126,7 +140,7 @@ impl Pool {
     fn digest(&mut self, random: &mut Random) -> Result<(), String> {
         let record = random.below(self.records.len());
         self.buffer(DIGEST_BYTES);
-        let Record { bytes, claim } = &self.records[record];
+        let Record { bytes, claim, .. } = &self.records[record];
         let answer = host::digest(Empty::Null, bytes, &mut self.buffer[..DIGEST_BYTES]);
         self.told("digest", 0, answer, &claim.digest)
     }
@@ -144,7 +158,7 @@ impl Pool {
         let record = random.below(self.records.len());
         let len = self.records[record].claim.assignment.len();
         self.buffer(len);
-        let Record { bytes, claim } = &self.records[record];
+        let Record { bytes, claim, .. } = &self.records[record];
         let answer = host::produce(Empty::Null, bytes, &mut self.buffer[..len]);
         self.told("produce", 0, answer, &claim.assignment)
     }
@@ -155,24 +169,64 @@ impl Pool {
             length,
             claim,
             answer: must,
+            ..
         } = &self.checks[number];
         let answer = host::check(Empty::Null, *length, &claim.digest, &claim.assignment);
         self.told("check", *must, answer, &[])
     }
 
-    /// A call that is refused by the sizes alone, refusals 2 to 6.
+    fn pack(&mut self, random: &mut Random) -> Result<(), String> {
+        let number = random.below(self.checks.len());
+        let len = self.checks[number].packed.len();
+        self.buffer(len);
+        let of = &self.checks[number];
+        let out = &mut self.buffer[..len];
+        let answer = host::pack(Empty::Null, of.length, &of.claim.assignment, out);
+        self.told("pack", of.pack_answer, answer, &of.packed)
+    }
+
+    /// Packed bytes as they are, and with a spare bit set.
+    fn unpack(&mut self, random: &mut Random) -> Result<(), String> {
+        let number = random.below(self.records.len());
+        let len = self.records[number].claim.assignment.len();
+        self.buffer(len);
+        let record = &mut self.records[number];
+        let (length, last) = (record.bytes.len() as u64, record.packed.len() - 1);
+        let out = &mut self.buffer[..len];
+        if random.one_in(4) {
+            record.packed[last] ^= 1;
+            let answer = host::unpack(Empty::Null, length, &record.packed, out);
+            record.packed[last] ^= 1;
+            return self.told("unpack", 12, answer, &[OLD; ROW_BYTES]);
+        }
+        let answer = host::unpack(Empty::Null, length, &record.packed, out);
+        let Record { claim, .. } = &self.records[number];
+        self.told("unpack", 0, answer, &claim.assignment)
+    }
+
+    /// A call that is refused by the sizes alone, refusals 2 to 6 and 11.
     fn refused(&mut self, random: &mut Random) -> Result<(), String> {
         let record = random.below(self.records.len());
         self.buffer(ROW_BYTES);
-        let Record { bytes, claim } = &self.records[record];
+        let Record {
+            bytes,
+            claim,
+            packed,
+        } = &self.records[record];
         let (length, none) = (bytes.len() as u64, Empty::Null);
+        if random.one_in(9) {
+            let answer = host::unpack(none, length, bytes, &mut self.buffer);
+            return self.told("a refused unpack", 11, answer, &[OLD; ROW_BYTES]);
+        }
         let short = &mut self.buffer[..DIGEST_BYTES - 1];
-        let (must, answer) = match random.below(6) {
+        let (must, answer) = match random.below(8) {
             0 => (4, host::digest(none, bytes, short)),
             1 => (2, host::produce(none, &claim.assignment, short)),
             2 => (4, host::row(none, length, 0, short)),
             3 => (3, host::row(none, length, u64::MAX, short)),
-            4 => (5, host::check(none, length, &[], &claim.assignment)),
+            4 => (4, host::pack(none, length, &claim.assignment, short)),
+            5 => (4, host::unpack(none, length, packed, short)),
+            6 => (5, host::check(none, length, &[], &claim.assignment)),
             _ => (6, host::check(none, length, &claim.digest, bytes)),
         };
         self.told("a refused call", must, answer, &[OLD; ROW_BYTES])
@@ -184,7 +238,9 @@ impl Pool {
             0..=54 => self.row(random),
             55..=89 => self.digest(random),
             90..=94 => self.refused(random),
-            95..=97 => self.produce(random),
+            95 | 96 => self.produce(random),
+            97 => self.pack(random),
+            98 => self.unpack(random),
             _ => self.check(random),
         }
     }

@@ -12,19 +12,26 @@ pub enum Operation {
     Row,
     Produce,
     Check,
+    Pack,
+    Unpack,
 }
 
-const OPERATIONS: [(Operation, &str); 4] = [
+const OPERATIONS: [(Operation, &str); 6] = [
     (Operation::Digest, "digest"),
     (Operation::Row, "row"),
     (Operation::Produce, "produce"),
     (Operation::Check, "check"),
+    (Operation::Pack, "pack"),
+    (Operation::Unpack, "unpack"),
 ];
+
+/// Refusals that the library gives, 0 for none.
+const REFUSALS: [usize; 12] = [0, 2, 3, 4, 5, 6, 7, 8, 9, 10, 11, 12];
 
 #[derive(Default)]
 pub struct Tally {
     /// Calls by operation and by the judge's refusal, 0 for none.
-    calls: [[u64; 10]; 4],
+    calls: [[u64; 13]; 6],
     /// Other things counted, by their name.
     counts: BTreeMap<&'static str, u64>,
     /// Rows seen as the failing one: record length and row number.
@@ -73,14 +80,14 @@ impl fmt::Display for Tally {
     fn fmt(&self, f: &mut fmt::Formatter<'_>) -> fmt::Result {
         writeln!(f, "answers compared, by the refusal (0: none)")?;
         write!(f, "{:8}", "")?;
-        for refusal in [0, 2, 3, 4, 5, 6, 7, 8, 9] {
-            write!(f, "{refusal:>10}")?;
+        for refusal in REFUSALS {
+            write!(f, "{refusal:>9}")?;
         }
         writeln!(f)?;
         for (operation, name) in OPERATIONS {
             write!(f, "{name:8}")?;
-            for refusal in [0, 2, 3, 4, 5, 6, 7, 8, 9] {
-                write!(f, "{:>10}", self.calls[operation as usize][refusal])?;
+            for refusal in REFUSALS {
+                write!(f, "{:>9}", self.calls[operation as usize][refusal])?;
             }
             writeln!(f)?;
         }

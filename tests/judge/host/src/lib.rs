@@ -1,4 +1,4 @@
-//! A host of the C library: the four functions of `include/sm3rows.h` and
+//! A host of the C library: the six functions of `include/sm3rows.h` and
 //! OpenSSL's SM3, on slices. All unsafe code of the comparison is here.
 
 pub mod openssl;
@@ -27,6 +27,20 @@ mod c {
             digest_len: usize,
             assignment: *const u8,
             assignment_len: usize,
+        ) -> u64;
+        pub fn sm3rows_pack(
+            length: u64,
+            assignment: *const u8,
+            assignment_len: usize,
+            out: *mut u8,
+            out_len: usize,
+        ) -> u64;
+        pub fn sm3rows_unpack(
+            length: u64,
+            packed: *const u8,
+            packed_len: usize,
+            out: *mut u8,
+            out_len: usize,
         ) -> u64;
     }
 }
@@ -75,6 +89,16 @@ pub fn produce(empty: Empty, record: &[u8], out: &mut [u8]) -> u64 {
 pub fn check(empty: Empty, length: u64, digest: &[u8], assignment: &[u8]) -> u64 {
     let (held, read) = (empty.of(digest), empty.of(assignment));
     unsafe { c::sm3rows_check(length, held, digest.len(), read, assignment.len()) }
+}
+
+pub fn pack(empty: Empty, length: u64, assignment: &[u8], out: &mut [u8]) -> u64 {
+    let (from, to) = (empty.of(assignment), empty.of_mut(out));
+    unsafe { c::sm3rows_pack(length, from, assignment.len(), to, out.len()) }
+}
+
+pub fn unpack(empty: Empty, length: u64, packed: &[u8], out: &mut [u8]) -> u64 {
+    let (from, to) = (empty.of(packed), empty.of_mut(out));
+    unsafe { c::sm3rows_unpack(length, from, packed.len(), to, out.len()) }
 }
 
 /// Gives memory that was freed back to the system, so that memory taken

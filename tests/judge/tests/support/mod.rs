@@ -1,6 +1,9 @@
-//! Helpers of the self checks: records, and an evaluation of rows that goes
-//! another way than the check's own.
+//! Helpers of the self checks: records, lent buffers, the program `judge`, and
+//! an evaluation of rows that goes another way than the check's own.
 #![allow(dead_code)]
+
+use std::io::Write;
+use std::process::{Command, Stdio};
 
 use judge::field::P;
 use judge::forms::{Row, RowNumber, RowTable, Term};
@@ -23,6 +26,25 @@ pub fn record(bytes: u64, seed: u64) -> Vec<u8> {
         (state >> 56) as u8
     };
     (0..bytes).map(|_| next()).collect()
+}
+
+/// Buffers are lent full of this byte, to see what stays.
+pub const OLD: u8 = 0xa5;
+
+pub fn untouched(buffer: &[u8]) -> bool {
+    buffer.iter().all(|&byte| byte == OLD)
+}
+
+/// What the program `judge` prints.
+pub fn run(arguments: &[&str], input: &[u8]) -> String {
+    let mut child = Command::new(env!("CARGO_BIN_EXE_judge"))
+        .args(arguments)
+        .stdin(Stdio::piped())
+        .stdout(Stdio::piped())
+        .spawn()
+        .unwrap();
+    child.stdin.take().unwrap().write_all(input).unwrap();
+    String::from_utf8(child.wait_with_output().unwrap().stdout).unwrap()
 }
 
 pub fn entry(assignment: &[u8], wire: usize) -> u64 {
