@@ -36,7 +36,7 @@ type PackingOfC = unsafe extern "C" fn(usize, *const u8, *mut u8) -> u64;
 
 fn pack_by(packing: PackingOfC, length: Length, assignment: &[u8], out: &mut [u8]) -> u64 {
     assert_eq!(assignment.len(), length.assignment_bytes());
-    assert!(out.len() >= length.wires().div_ceil(8));
+    assert!(out.len() >= length.packed_bytes());
     unsafe { packing(length.wires(), assignment.as_ptr(), out.as_mut_ptr()) }
 }
 

@@ -143,6 +143,16 @@ fn print_rates(figures: &[Figure], measure: &str) {
     }
 }
 
+/// What stands below the table.
+fn print_over_blocks(figures: &[Figure]) {
+    let same_memory = "produce, in the same memory";
+    print_growth(figures, "produce", "produce");
+    print_growth(figures, measures::SAME_MEMORY, same_memory);
+    print_growth(figures, "check", "check");
+    print_rates(figures, "pack");
+    print_rates(figures, "unpack");
+}
+
 fn csv(figures: &[Figure]) -> String {
     let mut text = String::from("measure,bytes,blocks,side,nanoseconds\n");
     for figure in figures {
@@ -219,15 +229,7 @@ fn main() -> ExitCode {
         libgcrypt::version()
     );
     let figures = measure_all(options.runs);
-    print_growth(&figures, "produce", "produce");
-    print_growth(
-        &figures,
-        measures::SAME_MEMORY,
-        "produce, in the same memory",
-    );
-    print_growth(&figures, "check", "check");
-    print_rates(&figures, "pack");
-    print_rates(&figures, "unpack");
+    print_over_blocks(&figures);
     if let Some(program) = options.program {
         match measures::lines_a_second(Path::new(&program)) {
             Ok(lines) => println!("rows          {lines:.0} lines a second"),

@@ -4,7 +4,6 @@
 use std::rc::Rc;
 
 use host::Empty;
-use judge::field::P;
 use judge::layout;
 use judge::length::Length;
 
@@ -16,19 +15,11 @@ fn in_range(length: u64) -> Length {
     Length::new(length).expect("a length in range")
 }
 
-/// The packed bytes of an assignment whose entries read as bits, in plain Rust.
-fn packed(assignment: &[u8]) -> Vec<u8> {
-    let entries = assignment.chunks_exact(8);
-    let bits: Vec<u8> = entries
-        .map(|eight| (u64::from_le_bytes(eight.try_into().expect("eight bytes")) % P) as u8)
-        .collect();
-    let byte = |eight: &[u8]| {
-        (0..)
-            .zip(eight)
-            .map(|(place, bit)| bit << (7 - place))
-            .sum()
-    };
-    bits.chunks(8).map(byte).collect()
+/// The packed bytes of an assignment, by the judge.
+fn packed(length: u64, assignment: &[u8]) -> Vec<u8> {
+    let mut out = vec![0; in_range(length).packed_bytes()];
+    judge::packing::pack(length, assignment, &mut out).expect("entries that read as bits");
+    out
 }
 
 /// A way of packing: of records of a length, an assignment into a buffer.
@@ -40,7 +31,7 @@ fn pack_ours(length: Length, assignment: &[u8], out: &mut [u8]) -> u64 {
 
 /// The packing of this assignment by one side, with a buffer of its own.
 fn packer(name: &'static str, pack: Packing, assignment: Rc<[u8]>, length: u64) -> Side<'static> {
-    let (length, right) = (in_range(length), packed(&assignment));
+    let (right, length) = (packed(length, &assignment), in_range(length));
     let mut out = vec![0xa5; right.len()];
     let last = length.wires() - 1;
     let mut no_bit = assignment.to_vec();
@@ -82,7 +73,7 @@ pub fn pack_shifted(lengths: &[u64], runs: u32) -> Vec<Vec<Figure>> {
 /// The two ways of unpacking at one length, each with a buffer of its own.
 fn unpackers(length: u64) -> [Side<'static>; 2] {
     let right = layout::assignment(&record(length));
-    let packed: Rc<[u8]> = packed(&right).into();
+    let packed: Rc<[u8]> = packed(length, &right).into();
     let mut ours = vec![0u8; right.len()];
     let mut theirs = vec![0u64; right.len() / 8];
     let mut spare = packed.to_vec();
