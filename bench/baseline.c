@@ -124,9 +124,7 @@ void baseline_produce(const uint8_t *record, size_t length, uint64_t *out)
         next = put_word(next, state[k]);
 }
 
-/* ---- The check ---- */
-
-typedef unsigned __int128 wide;
+/* ---- Entries ---- */
 
 static const uint64_t P = ((uint64_t)1 << 61) - 1;
 
@@ -136,6 +134,99 @@ static inline uint64_t reduce(uint64_t x)
     x = (x & P) + (x >> 61);
     return x >= P ? x - P : x;
 }
+
+static inline uint64_t load_entry(const uint8_t *assignment, size_t wire)
+{
+    uint64_t entry; /* least byte first, as on the machines that this runs on */
+    memcpy(&entry, assignment + 8 * wire, sizeof entry);
+    return entry;
+}
+
+/* ---- Packing ---- */
+
+/* Not above 1 where each of eight entries stands as the number 0 or 1. */
+static inline uint64_t any_of_eight(const uint8_t *entries)
+{
+    return load_entry(entries, 0) | load_entry(entries, 1) | load_entry(entries, 2) | load_entry(entries, 3) |
+           load_entry(entries, 4) | load_entry(entries, 5) | load_entry(entries, 6) | load_entry(entries, 7);
+}
+
+/* Eight such entries as a byte, in one step: quicker than a loop. */
+static inline uint8_t join_eight(const uint8_t *entries)
+{
+    uint64_t byte = load_entry(entries, 0);
+    byte = 2 * byte + load_entry(entries, 1);
+    byte = 2 * byte + load_entry(entries, 2);
+    byte = 2 * byte + load_entry(entries, 3);
+    byte = 2 * byte + load_entry(entries, 4);
+    byte = 2 * byte + load_entry(entries, 5);
+    byte = 2 * byte + load_entry(entries, 6);
+    return (uint8_t)(2 * byte + load_entry(entries, 7));
+}
+
+/* Eight entries that read as bits, as a byte. */
+static inline uint8_t join_reduced(const uint8_t *entries)
+{
+    uint64_t byte = 0;
+    for (size_t k = 0; k < 8; k++)
+        byte = 2 * byte + reduce(load_entry(entries, k));
+    return (uint8_t)byte;
+}
+
+uint64_t baseline_pack(size_t wires, const uint8_t *assignment, uint8_t *out)
+{
+    size_t last = wires - 1, plain = 0, wire;
+    while (plain < last && any_of_eight(assignment + 8 * plain) <= 1)
+        plain += 8;
+    for (wire = plain; wire < wires; wire++)
+        if (reduce(load_entry(assignment, wire)) > 1)
+            return 10 | (uint64_t)wire << 8;
+    for (wire = 0; wire < plain; wire += 8)
+        *out++ = join_eight(assignment + 8 * wire);
+    for (; wire < last; wire += 8)
+        *out++ = join_reduced(assignment + 8 * wire);
+    *out = (uint8_t)(reduce(load_entry(assignment, last)) << 7);
+    return 0;
+}
+
+uint64_t baseline_pack_copied(size_t wires, const uint8_t *assignment, uint8_t *out)
+{
+    uint8_t packed[BASELINE_PACKED_MOST];
+    size_t last = wires - 1;
+    for (size_t wire = 0; wire < last; wire += 8) {
+        if (any_of_eight(assignment + 8 * wire) <= 1) {
+            packed[wire / 8] = join_eight(assignment + 8 * wire);
+            continue;
+        }
+        for (size_t next = wire; next < wire + 8; next++)
+            if (reduce(load_entry(assignment, next)) > 1)
+                return 10 | (uint64_t)next << 8;
+        packed[wire / 8] = join_reduced(assignment + 8 * wire);
+    }
+    uint64_t value = reduce(load_entry(assignment, last));
+    if (value > 1)
+        return 10 | (uint64_t)last << 8;
+    packed[last / 8] = (uint8_t)(value << 7);
+    memcpy(out, packed, last / 8 + 1);
+    return 0;
+}
+
+uint64_t baseline_unpack(size_t wires, const uint8_t *packed, size_t packed_len, uint64_t *out)
+{
+    if (packed_len != (wires + 7) / 8)
+        return 11;
+    const uint8_t *last = packed + packed_len - 1;
+    if (*last & 0x7f)
+        return 12;
+    for (; packed < last; packed += 4)
+        out = put_word(out, load_word(packed));
+    *out = *last >> 7;
+    return 0;
+}
+
+/* ---- The check ---- */
+
+typedef unsigned __int128 wide;
 
 static inline uint64_t reduce_wide(wide x)
 {
@@ -162,11 +253,8 @@ static inline uint64_t evaluate(const struct baseline_rows *matrix, const uint64
 uint64_t baseline_check(const struct baseline_rows *matrix, const uint8_t digest[32], const uint8_t *assignment,
                         uint64_t *values)
 {
-    for (size_t wire = 0; wire < matrix->wires; wire++) {
-        uint64_t entry; /* least byte first, as on the machines that this runs on */
-        memcpy(&entry, assignment + 8 * wire, sizeof entry);
-        values[wire] = reduce(entry);
-    }
+    for (size_t wire = 0; wire < matrix->wires; wire++)
+        values[wire] = reduce(load_entry(assignment, wire));
     if (values[0] != 1)
         return 7;
     for (int bit = 0; bit < 256; bit++)

@@ -10,6 +10,18 @@
  * 1,015 bytes and out has room for all wires. */
 void baseline_produce(const uint8_t *record, size_t length, uint64_t *out);
 
+/* Packing of an assignment, `wires` entries of 8 bytes: 0, or 10 with the lowest wire that is no bit from bit 8 on, and
+ * then no byte is written. Wires are 32 x k + 1, so one stands alone in the last byte; out has room for 4 x k + 1. The
+ * first pass looks for 10, the second writes. */
+uint64_t baseline_pack(size_t wires, const uint8_t *assignment, uint8_t *out);
+
+/* The same in one pass, at the price of so much stack: into an array of its own, which is copied at the end. */
+enum { BASELINE_PACKED_MOST = 45121 };
+uint64_t baseline_pack_copied(size_t wires, const uint8_t *assignment, uint8_t *out);
+
+/* Unpacking to one uint64_t, 0 or 1, for each wire: 0, 11 or 12. */
+uint64_t baseline_unpack(size_t wires, const uint8_t *packed, size_t packed_len, uint64_t *out);
+
 /* The rows as a stored sparse matrix. Sum k (A, B, C of row 0, A, B, C of row 1, ..) has the terms from ends[k] to
  * before ends[k + 1]. */
 struct baseline_rows {

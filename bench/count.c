@@ -8,9 +8,11 @@
 #include <gcrypt.h>
 #include <openssl/evp.h>
 
+#include "baseline.h"
 #include "sm3rows.h"
 
-static uint8_t record[1015], digest[32], assignment[SM3ROWS_ASSIGNMENT_BYTES(1015)];
+static uint8_t record[1015], digest[32], packed[SM3ROWS_PACKED_BYTES(1015)];
+static uint64_t assignment[SM3ROWS_WIRES(1015)];
 static EVP_MD *kind;
 static EVP_MD_CTX *context;
 
@@ -33,13 +35,35 @@ static void by_libgcrypt(size_t bytes)
 
 static void by_produce(size_t bytes)
 {
-    sm3rows_produce(record, bytes, assignment, sizeof assignment);
+    sm3rows_produce(record, bytes, (uint8_t *)assignment, sizeof assignment);
+}
+
+static void by_pack(size_t bytes)
+{
+    sm3rows_pack(bytes, (uint8_t *)assignment, SM3ROWS_ASSIGNMENT_BYTES(bytes), packed, sizeof packed);
+}
+
+static void by_c_pack(size_t bytes)
+{
+    baseline_pack(SM3ROWS_WIRES(bytes), (uint8_t *)assignment, packed);
+}
+
+static void by_unpack(size_t bytes)
+{
+    sm3rows_unpack(bytes, packed, SM3ROWS_PACKED_BYTES(bytes), (uint8_t *)assignment, sizeof assignment);
+}
+
+static void by_c_unpack(size_t bytes)
+{
+    baseline_unpack(SM3ROWS_WIRES(bytes), packed, SM3ROWS_PACKED_BYTES(bytes), assignment);
 }
 
 static const struct {
     const char *name;
     void (*call)(size_t bytes);
-} sides[] = {{"digest", by_digest}, {"openssl", by_openssl}, {"libgcrypt", by_libgcrypt}, {"produce", by_produce}};
+} sides[] = {{"digest", by_digest},   {"openssl", by_openssl},   {"libgcrypt", by_libgcrypt},
+             {"produce", by_produce}, {"pack", by_pack},         {"c-pack", by_c_pack},
+             {"unpack", by_unpack},   {"c-unpack", by_c_unpack}};
 
 int main(int count, char **arguments)
 {
@@ -53,6 +77,8 @@ int main(int count, char **arguments)
     context = EVP_MD_CTX_new();
     for (size_t k = 0; k < sizeof record; k++)
         record[k] = (uint8_t)(k * k);
+    by_produce(bytes); /* for packing to read, and its bytes for unpacking */
+    by_pack(bytes);
     for (size_t side = 0; side < sizeof sides / sizeof *sides; side++)
         if (strcmp(sides[side].name, arguments[1]) == 0)
             for (int call = 0; call < calls; call++)

@@ -1,6 +1,6 @@
 #!/bin/sh
-# Counts by cachegrind, which no busy machine disturbs: the instructions of a digest on each side, and those of the
-# producer's blocks with the lines that are missed by caches as large as this machine's first two.
+# Counts by cachegrind, which no busy machine disturbs: the instructions of a digest on each side, those of the producer's
+# blocks with the lines that are missed by caches as large as this machine's first two, and those of packing.
 # SM3ROWS_LIB names the archive; without it, it is the one that `rt staticlib sm3rows` writes.
 set -eu
 
@@ -13,7 +13,8 @@ echo 'int main(void) { return 0; }' | gcc -x c - -lcrypto -lgcrypt -o /dev/null 
 
 mkdir -p "$root/target/bench"
 program=$root/target/bench/count
-gcc -std=c11 -O2 -Wall -Wextra -I "$root/include" "$root/bench/count.c" "$archive" -lcrypto -lgcrypt -o "$program"
+gcc -std=c11 -O2 -Wall -Wextra -I "$root/include" "$root/bench/count.c" "$root/bench/baseline.c" "$archive" \
+    -lcrypto -lgcrypt -o "$program"
 first=$(getconf LEVEL1_DCACHE_SIZE),$(getconf LEVEL1_DCACHE_ASSOC),64
 second=$(getconf LEVEL2_CACHE_SIZE),$(getconf LEVEL2_CACHE_ASSOC),64
 
@@ -52,4 +53,10 @@ echo "blocks  instructions  missed by the first  by the second"
 for blocks in 1 2 4 8 16; do
     call produce "$((64 * blocks - 9))" |
         awk -v n="$blocks" '{ printf "%6d %13.0f %20.0f %14.0f\n", n, $1 / n, $2 / n, $3 / n }'
+done
+echo "instructions of a wire, 1 block 16 blocks"
+for side in pack c-pack unpack c-unpack; do
+    { call "$side" 55; call "$side" 1015; } | awk -v side="$side" '
+        { wire[NR] = $1 / (513 + 22528 * (NR == 1 ? 1 : 16)) }
+        END { printf "%-22s %7.2f %9.2f\n", side, wire[1], wire[2] }'
 done

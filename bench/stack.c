@@ -1,5 +1,6 @@
-/* How much stack the four functions use: each is called on a thread whose stack was painted, and the lowest byte that
- * lost its paint is found afterwards. Built and run by bench/stack.sh. */
+/* How much stack the six functions use: each is called on a thread whose stack was painted, and the lowest byte that
+ * lost its paint is found afterwards. Usage: stack FILE; the longest record's claim is left in the file, as the program
+ * `packed` reads it. Built and run by bench/stack.sh. */
 
 #define _GNU_SOURCE
 #include <pthread.h>
@@ -11,9 +12,10 @@
 
 #include "sm3rows.h"
 
-enum { STACK = 8 << 20, PAINT = 0x5a, BIGGEST = 2887688 };
+enum { STACK = 8 << 20, PAINT = 0x5a, LONGEST = SM3ROWS_LONGEST };
 
-static uint8_t record[1015], out[BIGGEST], digest[32], *stack;
+static uint8_t record[LONGEST], out[SM3ROWS_ASSIGNMENT_BYTES(LONGEST)], packed[SM3ROWS_PACKED_BYTES(LONGEST)];
+static uint8_t digest[32], *stack;
 
 /* One call of each function for a record of that length. */
 static void call_digest(uint64_t length)
@@ -36,6 +38,16 @@ static void call_produce(uint64_t length)
 static void call_check(uint64_t length)
 {
     sm3rows_check(length, digest, sizeof digest, out, SM3ROWS_ASSIGNMENT_BYTES(length));
+}
+
+static void call_pack(uint64_t length)
+{
+    sm3rows_pack(length, out, SM3ROWS_ASSIGNMENT_BYTES(length), packed, sizeof packed);
+}
+
+static void call_unpack(uint64_t length)
+{
+    sm3rows_unpack(length, packed, SM3ROWS_PACKED_BYTES(length), out, sizeof out);
 }
 
 struct job {
@@ -70,26 +82,50 @@ static size_t used_by(void (*call)(uint64_t), uint64_t length)
     return job.used;
 }
 
-int main(void)
-{
-    static const struct {
-        const char *name;
-        void (*call)(uint64_t);
-    } functions[] = {{"digest", call_digest}, {"row", call_row}, {"produce", call_produce}, {"check", call_check}};
-    static const uint64_t lengths[] = {0, 55, 56, 63, 500, 1015};
+/* In this order each finds what it reads. */
+static const struct {
+    const char *name;
+    void (*call)(uint64_t);
+} functions[] = {{"digest", call_digest}, {"row", call_row},   {"produce", call_produce},
+                 {"check", call_check},   {"pack", call_pack}, {"unpack", call_unpack}};
+enum { FUNCTIONS = sizeof functions / sizeof *functions };
 
+static void print_stack(void)
+{
+    static const uint64_t lengths[] = {0, 55, 56, 63, 500, LONGEST};
+    size_t most[FUNCTIONS] = {0};
+    for (size_t l = 0; l < sizeof lengths / sizeof *lengths; l++)
+        for (size_t f = 0; f < FUNCTIONS; f++) {
+            size_t used = used_by(functions[f].call, lengths[l]);
+            most[f] = used > most[f] ? used : most[f];
+        }
+    for (size_t f = 0; f < FUNCTIONS; f++)
+        printf("%-8s at most %zu bytes of stack\n", functions[f].name, most[f]);
+}
+
+/* The claim that the last of the lengths left. */
+static int write_claim(const char *name)
+{
+    FILE *file = fopen(name, "wb");
+    if (file == NULL)
+        return EXIT_FAILURE;
+    fprintf(file, "%d,", LONGEST);
+    for (size_t k = 0; k < sizeof digest; k++)
+        fprintf(file, "%02x", digest[k]);
+    fputc('\n', file);
+    fwrite(packed, 1, sizeof packed, file);
+    return fclose(file) == 0 ? EXIT_SUCCESS : EXIT_FAILURE;
+}
+
+int main(int count, char **arguments)
+{
+    if (count != 2)
+        return EXIT_FAILURE;
     stack = mmap(NULL, STACK, PROT_READ | PROT_WRITE, MAP_PRIVATE | MAP_ANONYMOUS, -1, 0);
     if (stack == MAP_FAILED)
         return EXIT_FAILURE;
     for (size_t k = 0; k < sizeof record; k++)
         record[k] = (uint8_t)(k * k);
-    size_t most[4] = {0};
-    for (size_t l = 0; l < sizeof lengths / sizeof *lengths; l++)
-        for (size_t f = 0; f < 4; f++) { /* in this order check finds the digest and the assignment */
-            size_t used = used_by(functions[f].call, lengths[l]);
-            most[f] = used > most[f] ? used : most[f];
-        }
-    for (size_t f = 0; f < 4; f++)
-        printf("%-8s at most %zu bytes of stack\n", functions[f].name, most[f]);
-    return EXIT_SUCCESS;
+    print_stack();
+    return write_claim(arguments[1]);
 }

@@ -1,21 +1,26 @@
-/* SM3 record rows over the prime p = 2^61 - 1: the four operations for a C host.
+/* SM3 record rows over the prime p = 2^61 - 1: the six operations for a C host.
  *
  * The answer of every call is one 64-bit number. Its low byte is the refusal's number, 0 for none. What stands above it:
  *   - sm3rows_row without a refusal: how many terms A, B and C have, in bits 8 to 15, 16 to 23 and 24 to 31;
  *   - refusal 9: the lowest row that is not satisfied, from bit 8 on;
+ *   - refusal 10: the lowest wire whose entry is no bit, from bit 8 on;
  *   - otherwise 0.
  *
  * Refusals, in the order in which they are looked for. A call skips those that it has no argument for. A refused call
  * changes no byte.
  *   2  the record length is above 1,015
  *   3  the row number is not below the row count
- *   4  the buffer to be written is shorter than 32 bytes (digest), 1,956 (row) or 8 x wires (assignment)
+ *   4  the buffer to be written is shorter than 32 bytes (digest), 1,956 (row), 8 x wires (assignment) or
+ *      65 + 2,816 x blocks (packed bytes)
  *   5  the digest that an assignment is held against is not 32 bytes
  *   6  the assignment is not exactly 8 x wires bytes
+ *  10  an entry reads, modulo p, as neither 0 nor 1 (sm3rows_pack alone)
+ *  11  the packed bytes are not exactly 65 + 2,816 x blocks
+ *  12  a spare bit is set, one of the 7 low bits of the last packed byte
  *   7  wire 0 does not read as 1
  *   8  a digest wire does not read as its bit of the digest
  *   9  a row is not satisfied
- * (1 is a refusal of the programs `rows` and `steps` alone.)
+ * (1 is a refusal of the programs alone.)
  *
  * What the host owes:
  *   - A pointer and the length after it are a slice: bytes that may be read, and written where the slice is `out`.
@@ -43,6 +48,7 @@ extern "C" {
 #define SM3ROWS_WIRES(length) (513 + 22528 * SM3ROWS_BLOCKS(length))
 #define SM3ROWS_ROWS(length) (512 + 32320 * SM3ROWS_BLOCKS(length))
 #define SM3ROWS_ASSIGNMENT_BYTES(length) (8 * SM3ROWS_WIRES(length))
+#define SM3ROWS_PACKED_BYTES(length) (65 + 2816 * SM3ROWS_BLOCKS(length))
 
 /* The parts of an answer. */
 #define SM3ROWS_REFUSAL(answer) ((unsigned)((answer) & 0xff))
@@ -50,6 +56,7 @@ extern "C" {
 #define SM3ROWS_COUNT_B(answer) ((unsigned)((answer) >> 16 & 0xff))
 #define SM3ROWS_COUNT_C(answer) ((unsigned)((answer) >> 24 & 0xff))
 #define SM3ROWS_FAILING_ROW(answer) ((uint64_t)(answer) >> 8)
+#define SM3ROWS_FAILING_WIRE(answer) ((uint64_t)(answer) >> 8)
 
 /* The SM3 digest of the record into the first 32 bytes of out. Refusals 2, 4. */
 uint64_t sm3rows_digest(const uint8_t *record, size_t record_len, uint8_t *out, size_t out_len);
@@ -66,6 +73,15 @@ uint64_t sm3rows_produce(const uint8_t *record, size_t record_len, uint8_t *out,
  * digest. 0 when it does. Refusals 2, 5, 6, 7, 8, 9. */
 uint64_t sm3rows_check(uint64_t length, const uint8_t *digest, size_t digest_len, const uint8_t *assignment,
                        size_t assignment_len);
+
+/* The assignment for records of `length` bytes, its entries read modulo p, at one bit a wire into the first
+ * 65 + 2,816 x blocks bytes of out: wire w in byte w / 8, the first wire in the highest bit, the spare low bits zero.
+ * Bytes of out past them keep their value. Refusals 2, 4, 6, 10. */
+uint64_t sm3rows_pack(uint64_t length, const uint8_t *assignment, size_t assignment_len, uint8_t *out, size_t out_len);
+
+/* The way back: the assignment of packed bytes into the first 8 x wires bytes of out, laid out as by sm3rows_produce.
+ * Bytes of out past it keep their value. Refusals 2, 4, 11, 12. */
+uint64_t sm3rows_unpack(uint64_t length, const uint8_t *packed, size_t packed_len, uint8_t *out, size_t out_len);
 
 #ifdef __cplusplus
 }

@@ -14,6 +14,9 @@ struct RowsOfC {
 
 extern "C" {
     fn baseline_produce(record: *const u8, length: usize, out: *mut u64);
+    fn baseline_pack(wires: usize, assignment: *const u8, out: *mut u8) -> u64;
+    fn baseline_pack_copied(wires: usize, assignment: *const u8, out: *mut u8) -> u64;
+    fn baseline_unpack(wires: usize, packed: *const u8, packed_len: usize, out: *mut u64) -> u64;
     fn baseline_check(
         matrix: *const RowsOfC,
         digest: *const [u8; 32],
@@ -27,6 +30,31 @@ pub fn produce(record: &[u8], out: &mut [u64]) {
     let length = Length::of(record).expect("a record in range");
     assert!(out.len() >= length.wires());
     unsafe { baseline_produce(record.as_ptr(), record.len(), out.as_mut_ptr()) }
+}
+
+type PackingOfC = unsafe extern "C" fn(usize, *const u8, *mut u8) -> u64;
+
+fn pack_by(packing: PackingOfC, length: Length, assignment: &[u8], out: &mut [u8]) -> u64 {
+    assert_eq!(assignment.len(), length.assignment_bytes());
+    assert!(out.len() >= length.packed_bytes());
+    unsafe { packing(length.wires(), assignment.as_ptr(), out.as_mut_ptr()) }
+}
+
+/// The assignment packed, in two passes; `out` must have room.
+pub fn pack(length: Length, assignment: &[u8], out: &mut [u8]) -> u64 {
+    pack_by(baseline_pack, length, assignment, out)
+}
+
+/// The same in one pass, by way of an array on the stack.
+pub fn pack_copied(length: Length, assignment: &[u8], out: &mut [u8]) -> u64 {
+    pack_by(baseline_pack_copied, length, assignment, out)
+}
+
+/// The assignment of packed bytes; `out` must have room for all wires.
+pub fn unpack(length: Length, packed: &[u8], out: &mut [u64]) -> u64 {
+    let wires = length.wires();
+    assert!(out.len() >= wires);
+    unsafe { baseline_unpack(wires, packed.as_ptr(), packed.len(), out.as_mut_ptr()) }
 }
 
 /// The rows as a stored sparse matrix, built once outside the timing.

@@ -5,6 +5,7 @@
 mod baseline;
 mod libgcrypt;
 mod measures;
+mod packing;
 mod timing;
 
 use std::fmt::Write;
@@ -12,13 +13,16 @@ use std::fs;
 use std::path::Path;
 use std::process::ExitCode;
 
+use judge::length::Length;
+
 use measures::OURS;
 use timing::Figure;
 
 /// Records of 1, 2, 4, 8 and 16 blocks, the longest of each.
 const GROWTH: [u64; 5] = [55, 119, 247, 503, 1015];
 
-/// Those of 1, 2 and 16 blocks, at which the check is timed on other claims too.
+/// Those of 1, 2 and 16 blocks, at which the check and packing are timed on
+/// other claims too.
 const OTHER_CLAIMS: [u64; 3] = [55, 119, 1015];
 
 struct Options {
@@ -56,6 +60,7 @@ fn target(measure: &str, side: &str) -> Option<f64> {
         ("digest", "openssl") => Some(1.0),
         ("produce", "c-loop") => Some(1.5),
         ("check", "c-sparse") => Some(0.25),
+        ("pack" | "unpack", "c-loop") => Some(1.0),
         _ => None,
     }
 }
@@ -122,6 +127,32 @@ fn print_growth(figures: &[Figure], measure: &str, name: &str) {
     );
 }
 
+/// How much of an assignment each side goes through in a second.
+fn print_rates(figures: &[Figure], measure: &str) {
+    let of_measure = || figures.iter().filter(|figure| figure.measure == measure);
+    for side in of_measure().filter(|figure| figure.blocks == 1) {
+        print!(
+            "{measure} by {}, billion bytes of the assignment a second over 1, 2, 4, 8, 16 blocks:",
+            side.side
+        );
+        for figure in of_measure().filter(|figure| figure.side == side.side) {
+            let bytes = Length::new(figure.bytes).map_or(0, Length::assignment_bytes);
+            print!(" {:.1}", bytes as f64 / figure.nanoseconds);
+        }
+        println!();
+    }
+}
+
+/// What stands below the table.
+fn print_over_blocks(figures: &[Figure]) {
+    let same_memory = "produce, in the same memory";
+    print_growth(figures, "produce", "produce");
+    print_growth(figures, measures::SAME_MEMORY, same_memory);
+    print_growth(figures, "check", "check");
+    print_rates(figures, "pack");
+    print_rates(figures, "unpack");
+}
+
 fn csv(figures: &[Figure]) -> String {
     let mut text = String::from("measure,bytes,blocks,side,nanoseconds\n");
     for figure in figures {
@@ -154,9 +185,9 @@ fn measure_all(runs: u32) -> Vec<Figure> {
     for length in [0, 63, 1015] {
         take(measures::digest(length, runs));
     }
-    for figures in measures::produce(&GROWTH, runs) {
-        take(figures);
-    }
+    measures::produce(&GROWTH, runs)
+        .into_iter()
+        .for_each(&mut take);
     for length in GROWTH {
         take(measures::check(length, runs));
     }
@@ -166,6 +197,12 @@ fn measure_all(runs: u32) -> Vec<Figure> {
     for length in OTHER_CLAIMS {
         take(measures::check_refused(length, runs));
     }
+    let packing = [
+        packing::pack(&GROWTH, runs),
+        packing::unpack(&GROWTH, runs),
+        packing::pack_shifted(&OTHER_CLAIMS, runs),
+    ];
+    packing.into_iter().flatten().for_each(&mut take);
     all.extend(measures::growth(&GROWTH, runs));
     all
 }
@@ -192,13 +229,7 @@ fn main() -> ExitCode {
         libgcrypt::version()
     );
     let figures = measure_all(options.runs);
-    print_growth(&figures, "produce", "produce");
-    print_growth(
-        &figures,
-        measures::SAME_MEMORY,
-        "produce, in the same memory",
-    );
-    print_growth(&figures, "check", "check");
+    print_over_blocks(&figures);
     if let Some(program) = options.program {
         match measures::lines_a_second(Path::new(&program)) {
             Ok(lines) => println!("rows          {lines:.0} lines a second"),

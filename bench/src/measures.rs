@@ -24,8 +24,24 @@ pub const OURS: &str = "sm3rows";
 /// The measure that `growth` takes.
 pub const SAME_MEMORY: &str = "produce-same-memory";
 
-fn record(length: u64) -> Vec<u8> {
+pub fn record(length: u64) -> Vec<u8> {
     (0..length).map(|k| (k * k + 7 * k + 3) as u8).collect()
+}
+
+/// Entries as the bytes of an assignment.
+pub fn as_bytes(entries: &[u64]) -> Vec<u8> {
+    entries
+        .iter()
+        .flat_map(|entry| entry.to_le_bytes())
+        .collect()
+}
+
+/// Adds p to every entry: each reads as before, but none is the number 0 or 1.
+pub fn shift(assignment: &mut [u8]) {
+    for eight in assignment.chunks_exact_mut(8) {
+        let entry = u64::from_le_bytes((&*eight).try_into().expect("eight bytes"));
+        eight.copy_from_slice(&(entry + P).to_le_bytes());
+    }
 }
 
 fn figures(measure: &'static str, bytes: u64, times: Vec<(&'static str, f64)>) -> Vec<Figure> {
@@ -68,11 +84,10 @@ fn producers(length: u64) -> [Side<'static>; 2] {
     assert_eq!(host::produce(Empty::Null, &record, &mut ours), 0);
     baseline::produce(&record, &mut theirs);
     assert!(ours == right, "the producer and the judge differ");
-    let as_bytes: Vec<u8> = theirs
-        .iter()
-        .flat_map(|entry| entry.to_le_bytes())
-        .collect();
-    assert!(as_bytes == right, "the C loop and the judge differ");
+    assert!(
+        as_bytes(&theirs) == right,
+        "the C loop and the judge differ"
+    );
     let same = record.clone();
     [
         side(OURS, move || host::produce(Empty::Null, &record, &mut ours)),
@@ -80,14 +95,24 @@ fn producers(length: u64) -> [Side<'static>; 2] {
     ]
 }
 
-/// The producer beside the plain C loop at these lengths, all of them turn by
-/// turn: a slow spell of the machine then bends no line over the blocks.
-pub fn produce(lengths: &[u64], runs: u32) -> Vec<Vec<Figure>> {
-    let sides = lengths.iter().flat_map(|&length| producers(length));
-    let times = best(sides.collect(), runs);
-    let each = lengths.iter().zip(times.chunks(2));
-    each.map(|(&length, two)| figures("produce", length, two.to_vec()))
+/// A measure at these lengths, all of them turn by turn: a slow spell of the
+/// machine then bends no line over the blocks.
+pub fn turn_by_turn<const SIDES: usize>(
+    measure: &'static str,
+    sides: impl Fn(u64) -> [Side<'static>; SIDES],
+    lengths: &[u64],
+    runs: u32,
+) -> Vec<Vec<Figure>> {
+    let all = lengths.iter().flat_map(|&length| sides(length));
+    let times = best(all.collect(), runs);
+    let each = lengths.iter().zip(times.chunks(SIDES));
+    each.map(|(&length, times)| figures(measure, length, times.to_vec()))
         .collect()
+}
+
+/// The producer beside the plain C loop.
+pub fn produce(lengths: &[u64], runs: u32) -> Vec<Vec<Figure>> {
+    turn_by_turn("produce", producers, lengths, runs)
 }
 
 /// The producer at these lengths in the same memory, turn by turn too: every
@@ -171,14 +196,11 @@ pub fn check(length: u64, runs: u32) -> Vec<Figure> {
     Claim::new(length).measure("check", 0, true, runs)
 }
 
-/// The check of a right assignment with p added to every entry: it is accepted
-/// all the same, but no entry is the number 0 or 1.
+/// The check of a right assignment with p added to every entry, which is
+/// accepted all the same.
 pub fn check_shifted(length: u64, runs: u32) -> Vec<Figure> {
     let mut claim = Claim::new(length);
-    for eight in claim.assignment.chunks_exact_mut(8) {
-        let entry = u64::from_le_bytes((&*eight).try_into().expect("eight bytes"));
-        eight.copy_from_slice(&(entry + P).to_le_bytes());
-    }
+    shift(&mut claim.assignment);
     claim.measure("check-shifted", 0, false, runs)
 }
 
