@@ -12,7 +12,7 @@ use Rattle.assignment.proofs.Entries.{length-entries}
 use Rattle.assignment.specs.Assignment.{entryBytes}
 use Rattle.assignment.specs.Wrote.{Wrote}
 use Rattle.encoding.proofs.Sequence.{beside-first, beside-then, grid-at}
-use Rattle.encoding.proofs.Written.{length-written, written-as, written-before, written-front, written-none, written-then}
+use Rattle.encoding.proofs.Written.{length-written, written-apart, written-as, written-before, written-front, written-none, written-then}
 use Rattle.encoding.specs.Bytes.{leastFirst}
 use Rattle.encoding.specs.Sequence.{beside, grid}
 
@@ -71,6 +71,13 @@ wrote-before {w} {n} {m} {s} {t} u e h h′ =
     record {
       entries = written-as (sym (entries-beside n m s t)) (written-before (8 * u) place (h .entries) (h′ .entries));
     }
+
+-- runs apart may be written in either order
+pub wrote-apart : {w u n m : ℕ} {s t : ℕ → ℕ} {l l′ l″ : List ℕ} → w + n ≤ u → Wrote u m t l l′ → Wrote w n s l′ l″
+    → (between : List ℕ) × Wrote w n s l between × Wrote u m t between l″
+wrote-apart {w} {u} {n} {m} {s} {t} room h h′ =
+    let apart = written-apart (omega (arith, length-entries n s)) (h .entries) (h′ .entries) in
+    (apart .0, record { entries = apart .1 }, record { entries = apart .2 })
 
 -- m places more of one sequence
 pub wrote-on : {w n m : ℕ} {s t : ℕ → ℕ} {l l′ l″ : List ℕ} (u : ℕ) → u ≡ w + n → ((k : ℕ) → k < m → t k ≡ s (n + k))

@@ -6,7 +6,6 @@ use mathlib.Core.Path.{_≡_, _∙_, ap, refl, subst, sym}
 use Prim.Native.Nat.{ℕ, zero, suc, _+_, _-_, _<_, _≤_}
 use native.Mathlib.Decide.{decLt}
 use native.Mathlib.Nat.{add-zero}
-use native.Mathlib.Numerals.{add-one}
 use native.Mathlib.Omega.{arith}
 use Rattle.encoding.specs.Lowest.{IsLowest, lowestFailing}
 
@@ -54,14 +53,14 @@ module _ {A : Type 0} (holds : ℕ → Bool) (found : ℕ → A) where
       by-lowest (λ x. x ≡ none) none k m (λ _. refl) (λ j low. absurd (never (all j (low .at-least) (low .below)) (low .fails)))
 
   -- where j is the lowest place at which it fails
-  pub lowest-found : (none : A) (k m j : ℕ) → IsLowest holds k (k + m) j → lowestFailing holds found none k m ≡ found j
+  lowest-found : (none : A) (k m j : ℕ) → IsLowest holds k (k + m) j → lowestFailing holds found none k m ≡ found j
   lowest-found none k m j low =
       by-lowest (λ x. x ≡ found j) none k m (λ all. absurd (never (all j (low .at-least) (low .below)) (low .fails)))
       (λ i other. ap found (by-cases (decLt i j) (λ l. absurd (never (low .lower-hold i (other .at-least) l) (other .fails)))
       (λ g. by-cases (decLt j i) (λ l. absurd (never (other .lower-hold j (low .at-least) l) (low .fails))) (λ h. omega arith))))
 
   -- m places, then n more
-  pub lowest-add : (none : A) (m k n : ℕ)
+  lowest-add : (none : A) (m k n : ℕ)
       → lowestFailing holds found none k (m + n) ≡ lowestFailing holds found (lowestFailing holds found none (k + m) n) k m
   unfolding lowestFailing
   lowest-add none zero k n =

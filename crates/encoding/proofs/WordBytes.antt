@@ -1,6 +1,6 @@
 -- The bytes of a number, the highest first, are those that its bits write: without its last byte the number is what the bits
 -- before the last eight write, and its last byte is what these write.
-use mathlib.Core.List.{List, [], _∷_, _++_}
+use mathlib.Core.List.{[], _∷_, _++_}
 use mathlib.Core.Path.{_≡_, _∙_, ap, ap₂, refl, sym}
 use Prim.Native.Nat.{ℕ, zero, suc, _+_, _-_, _*_, _/_, _%_, _^_, _<_}
 use native.Mathlib.Nat.{div-div-eq-div-mul, div-one, pow-succ'}

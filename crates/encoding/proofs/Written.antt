@@ -46,18 +46,21 @@ pub written-then : {at : ℕ} {xs ys l l′ l″ : List ℕ} (end : ℕ) → end
 written-then {at} {xs} {ys} {l} end e h h′ =
     record { left = h′ .left ∙ ap₂ (λ b k. sets b k ys) (h .left) e ∙ sets-append xs ys l at }
 
+-- pieces apart may be written in either order
+pub written-apart : {at b : ℕ} {xs ys l l′ l″ : List ℕ} → at + length xs ≤ b → Written b ys l l′ → Written at xs l′ l″
+    → (m : List ℕ) × Written at xs l m × Written b ys m l″
+written-apart {at} {b} {xs} {ys} {l} room h h′ = (
+  sets l at xs,
+  record { left = refl },
+  record { left = h′ .left ∙ ap (λ m. sets m at xs) (h .left) ∙ sets-before xs ys l at b room },
+)
+
 -- .. or the second piece first
 pub written-before : {at : ℕ} {xs ys l l′ l″ : List ℕ} (end : ℕ) → end ≡ at + length xs → Written end ys l l′
     → Written at xs l′ l″ → Written at (xs ++ ys) l l″
-written-before {at} {xs} {ys} {l} end e h h′ =
-    record {
-      left =
-          h′ .left
-          ∙ ap (λ m. sets m at xs) (h .left)
-          ∙ sets-before xs ys l at end (omega arith)
-          ∙ ap (λ k. sets (sets l at xs) k ys) e
-          ∙ sets-append xs ys l at;
-    }
+written-before end e h h′ =
+    let apart = written-apart (omega arith) h h′ in
+    written-then end e (apart .1) (apart .2)
 
 -- the same values, said otherwise
 pub written-as : {at : ℕ} {xs ys l l′ : List ℕ} → xs ≡ ys → Written at xs l l′ → Written at ys l l′

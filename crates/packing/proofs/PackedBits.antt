@@ -28,7 +28,7 @@ module _ (n : ℕ) (s : ℕ → ℕ) (bits : (w : ℕ) → w < n → s w < 2) wh
       let place : n + (k - n) ≡ k = omega arith in
       subst (λ i. beside n s (λ k. 0) i < 2) place (subst (λ x. x < 2) (sym (beside-then n s (λ k. 0) (k - n))) (lit< tt)))
 
-  pub packed-bytes : Bytes (packedBytes n s)
+  packed-bytes : Bytes (packedBytes n s)
   unfolding packedBytes
   packed-bytes = bytes-of-bits (packedLength n) _ (λ k l. all-bits k)
 

@@ -1,9 +1,9 @@
 -- Packing and unpacking undo each other. Bit w of packed bytes is the value of wire w, which is 0 or 1 and so its own residue: entries
 -- that are unpacked read as the bits, and bits that are packed are the entries. An accepted assignment's wires are those of a record,
 -- which are bits. And the check reads nothing of an assignment but its length and its entries.
-use mathlib.Core.List.{List, [], _++_, append-nil}
+use mathlib.Core.List.{List, [], append-nil}
 use mathlib.Core.Path.{_≡_, _∙_, ap, refl, subst, sym}
-use Prim.Native.Nat.{ℕ, _+_, _*_, _%_, _<_, _≤_}
+use Prim.Native.Nat.{ℕ, _*_, _<_, _≤_}
 use native.Mathlib.Nat.{mod-eq-of-lt}
 use native.Mathlib.Omega.{arith}
 use lib.ListN.{length}
@@ -29,7 +29,7 @@ use Rattle.record.specs.Demand3.{IsAccepted}
 use Rattle.refusal.specs.declared.outcome.Outcome.the-variants.{Done}
 
 -- entries that are residues read back as they were written
-pub entry-of-bytes : (n : ℕ) (s : ℕ → ℕ) (w : ℕ) → w < n → s w < p → entry (entryBytes n s) w ≡ s w
+entry-of-bytes : (n : ℕ) (s : ℕ → ℕ) (w : ℕ) → w < n → s w < p → entry (entryBytes n s) w ≡ s w
 entry-of-bytes n s w l below =
     ap (λ bytes. entry bytes w) (sym (append-nil (entryBytes n s)))
     ∙ entry-written n s [] w l (omega arith)

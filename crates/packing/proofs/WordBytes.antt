@@ -1,9 +1,9 @@
--- Words packed one after the other. A word's four bytes are those that its 32 bits write, so they are the next four of the bytes
--- that all bits write; and one wire more is the highest bit of a byte of its own, whose other bits are spare.
+-- Words packed one after the other. A word's four bytes are those that its 32 bits write, so they are the first four of the bytes
+-- that these and the bits behind them write; and one wire more is the highest bit of a byte of its own, whose other bits are spare.
 use mathlib.Core.List.{List, [], _∷_, _++_}
-use mathlib.Core.Path.{_≡_, _∙_, ap, ap₂, fun-ext, sym}
-use Prim.Native.Nat.{ℕ, _+_, _-_, _*_, _/_, _%_, _^_, _<_}
-use native.Mathlib.Nat.{add-zero, zero-add}
+use mathlib.Core.Path.{_≡_, _∙_, ap, ap₂, sym}
+use Prim.Native.Nat.{ℕ, _+_, _-_, _*_, _/_, _%_, _^_, _<_, _≤_}
+use native.Mathlib.Nat.{sub-zero, zero-add}
 use native.Mathlib.Omega.{arith}
 use lib.ListN.{getD}
 use Rattle.circuit.specs.Wires.{wireCount}
@@ -16,21 +16,44 @@ use Rattle.encoding.specs.Bytes.{highestFirst}
 use Rattle.encoding.specs.Sequence.{beside, tab}
 use Rattle.packing.specs.Packed.{packedBytes, packedLength, spareBits}
 
--- the wires of a record are words and one wire more
-pub one-over : (n : ℕ) → wireCount n % 32 ≡ 1
+-- the wires of a record are pairs of words and one wire more
+pub one-over : (n : ℕ) → wireCount n % 64 ≡ 1
 unfolding wireCount
 one-over n = omega arith
 
--- the four bytes of word j behind those of the words before it
-pub one-word-more : (s : ℕ → ℕ) (j x : ℕ) → ((k : ℕ) → k < 32 → s (32 * j + k) < 2)
-    → x ≡ number 32 (λ i. s (32 * j + i)) → bytesOfBits (4 * j) s ++ highestFirst 4 x ≡ bytesOfBits (4 * (j + 1)) s
-one-word-more s j x bits e =
-    let place : 32 * j ≡ 8 * (4 * j) = omega arith in
-    let count : 4 * j + 4 ≡ 4 * (j + 1) = omega arith in
-    ap (λ l. bytesOfBits (4 * j) s ++ l)
-    (ap (highestFirst 4) e ∙ bytes-of-number 4 (λ i. s (32 * j + i)) bits ∙ ap (λ f. bytesOfBits 4 (λ i. s (f + i))) place)
-    ∙ sym (bytes-of-bits-add (4 * j) 4 s)
+-- the four bytes of a word before those of m words that follow it
+one-word-before : (s : ℕ → ℕ) (m x : ℕ) → ((k : ℕ) → k < 32 → s k < 2) → x ≡ number 32 s
+    → highestFirst 4 x ++ bytesOfBits (4 * m) (λ k. s (32 + k)) ≡ bytesOfBits (4 * (m + 1)) s
+one-word-before s m x bits e =
+    let count : 4 + 4 * m ≡ 4 * (m + 1) = omega arith in
+    ap (λ l. l ++ bytesOfBits (4 * m) (λ k. s (32 + k))) (ap (highestFirst 4) e ∙ bytes-of-number 4 s bits)
+    ∙ sym (bytes-of-bits-add 4 (4 * m) s)
     ∙ ap (λ n. bytesOfBits n s) count
+
+-- the bytes of the words from word j on, of n
+abbrev pub wordsFrom : (ℕ → ℕ) → ℕ → ℕ → List ℕ
+wordsFrom s n j = bytesOfBits (4 * (n - j)) (λ k. s (32 * j + k))
+
+pub no-words : (s : ℕ → ℕ) (n : ℕ) → wordsFrom s n n ≡ []
+unfolding bytesOfBits tab
+no-words s n =
+    let none : 4 * (n - n) ≡ 0 = omega arith in
+    ap (λ m. bytesOfBits m (λ k. s (32 * n + k))) none
+
+pub one-word-more : (s : ℕ → ℕ) (n j x : ℕ) → 0 < j → j ≤ n → ((k : ℕ) → k < 32 → s (32 * (j - 1) + k) < 2)
+    → x ≡ number 32 (λ i. s (32 * (j - 1) + i)) → highestFirst 4 x ++ wordsFrom s n j ≡ wordsFrom s n (j - 1)
+one-word-more s n j x some l bits e =
+    let count : n - j + 1 ≡ n - (j - 1) = omega arith in
+    ap (λ l. highestFirst 4 x ++ l)
+    (bytes-of-bits-congruent (4 * (n - j)) _ _
+    (λ k h.
+    let place : 32 * j + k ≡ 32 * (j - 1) + (32 + k) = omega arith in
+    ap s place))
+    ∙ one-word-before (λ k. s (32 * (j - 1) + k)) (n - j) x bits e
+    ∙ ap (λ m. bytesOfBits (4 * m) (λ k. s (32 * (j - 1) + k))) count
+
+pub all-words : (s : ℕ → ℕ) (n : ℕ) → wordsFrom s n 0 ≡ bytesOfBits (4 * n) s
+all-words s n = ap (λ m. bytesOfBits (4 * m) (λ k. s (0 + k))) (sub-zero n) ∙ bytes-of-bits-congruent (4 * n) _ s (λ k l. ap s (zero-add k))
 
 -- a byte whose first bit is v and whose others are 0
 first-bit : (b : ℕ → ℕ) (v : ℕ) → b 0 ≡ v → number 7 (λ i. b (1 + i)) ≡ 0 → number 8 b ≡ 128 * v
@@ -66,16 +89,16 @@ module _ (n : ℕ) (over : n % 32 ≡ 1) where
       ∙ sym (bytes-of-bits-add (4 * words) 1 b)
       ∙ ap (λ m. bytesOfBits m b) count
 
-  pub spare-byte : (packed : List ℕ) → spareBits n packed ≡ getD packed (4 * words) 0 % 128
+  pub spare-byte : (packed : List ℕ) → spareBits n packed ≡ getD packed (n / 8) 0 % 128
   unfolding spareBits
   spare-byte packed =
       let count : 8 * packedLength n - n ≡ 7 = omega arith in
       ap (λ m. number m (λ k. bitOfBytes packed (n + k))) count
       ∙ number-cong 7 _ _
       (λ i l.
-      let place : n + i ≡ 8 * (4 * words) + (1 + i) = omega arith in
+      let place : n + i ≡ 8 * (n / 8) + (1 + i) = omega arith in
       let weight : 7 - (1 + i) ≡ 7 - 1 - i = omega arith in
       ap (bitOfBytes packed) place
-      ∙ bit-of-byte packed (4 * words) (1 + i) (omega arith)
-      ∙ ap (λ k. getD packed (4 * words) 0 / 2 ^ k % 2) weight)
-      ∙ number-of-bits 7 (getD packed (4 * words) 0)
+      ∙ bit-of-byte packed (n / 8) (1 + i) (omega arith)
+      ∙ ap (λ k. getD packed (n / 8) 0 / 2 ^ k % 2) weight)
+      ∙ number-of-bits 7 (getD packed (n / 8) 0)

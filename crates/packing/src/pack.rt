@@ -82,12 +82,15 @@ fn word_of(assignment: &[u8], w: WireNumber, standing: bool) -> u32
     x
 }
 
-// The first words of an assignment, whose wires are bits, four bytes each.
+// The first words of an assignment, whose wires are bits, four bytes each. They are written from the last on: when all words
+// have just been read, the last ones are still at hand.
 fn put_words(assignment: &[u8], words: usize, standing: bool, out: &mut [u8])
     requires { ⌜ (256 * words ≤ length (now assignment)) × (4 * words ≤ length (now out)) × ((w : ℕ) → w < 32 * words → entry (now assignment) w < 2) × (standing ≡ true → Stand 0 (32 * words) (now assignment)) ⌝ }
     ensures { λ _. ⌜ Written 0 (bytesOfBits (4 * words) (entry (now (assignment .entry)))) (now (out .entry)) (now (out .exit)) ⌝ }
 {
-    for j in 0..words {
+    let mut j = words;
+    while 0 < j {
+        j -= 1;
         let x = word_of(assignment, WireNumber(32 * j as u64), standing);
         put_word(out, 4 * j, x);
     }
@@ -113,10 +116,12 @@ pub fn pack(size: u64, assignment: &[u8], out: &mut [u8]) -> Outcome
         return Outcome::Refused(Refusal::LengthAboveLimit);
     }
     let wires = wire_count(8 * size);
-    if (out.len() as u64) < packed_length(wires) {
+    let room = packed_length(wires);
+    let bytes = 8 * wires;
+    if (out.len() as u64) < room {
         return Outcome::Refused(Refusal::BufferTooShort);
     }
-    if assignment.len() as u64 != 8 * wires {
+    if assignment.len() as u64 != bytes {
         return Outcome::Refused(Refusal::WrongLength);
     }
     let standing = words_stand(assignment, wires / 32);

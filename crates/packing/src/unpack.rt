@@ -1,6 +1,6 @@
 // Packed bytes as an assignment of 8-byte entries.
 ghost use mathlib.Core.Path.{_≡_};
-ghost use Prim.Native.Nat.{_+_, _*_, _≤_};
+ghost use Prim.Native.Nat.{_*_, _≤_};
 ghost use lib.ListN.{length};
 ghost use Rattle.assignment.specs.Wrote.{Wrote};
 ghost use Rattle.encoding.specs.Bits.{bitOfBytes};
@@ -16,14 +16,17 @@ use refusal::outcome::Outcome;
 use refusal::outcome::Refusal;
 use sm3::message::LONGEST;
 
-// The first words of packed bytes, 32 entries each.
-fn put_entries(packed: &[u8], words: usize, out: &mut [u8])
-    requires { ⌜ (4 * words ≤ length (now packed)) × (256 * words ≤ length (now out)) ⌝ }
-    ensures { λ _. ⌜ Wrote 0 (32 * words) (bitOfBytes (now (packed .entry))) (now (out .entry)) (now (out .exit)) ⌝ }
+// The first entries of packed bytes: in each turn a word of their first half and one of the second, since two places of memory
+// are written sooner than one.
+fn put_entries(packed: &[u8], half: usize, out: &mut [u8])
+    requires { ⌜ (8 * half ≤ length (now packed)) × (512 * half ≤ length (now out)) ⌝ }
+    ensures { λ _. ⌜ Wrote 0 (64 * half) (bitOfBytes (now (packed .entry))) (now (out .entry)) (now (out .exit)) ⌝ }
 {
-    for j in 0..words {
+    for j in 0..half {
         let x = word_at(packed, 4 * j);
         put_word(out, WireNumber(32 * j as u64), x);
+        let y = word_at(packed, 4 * (half + j));
+        put_word(out, WireNumber(32 * (half + j) as u64), y);
     }
 }
 
@@ -42,11 +45,11 @@ pub fn unpack(size: u64, packed: &[u8], out: &mut [u8]) -> Outcome
     if packed.len() as u64 != packed_length(wires) {
         return Outcome::Refused(Refusal::WrongPackedLength);
     }
-    let words = (wires / 32) as usize;
-    if packed[4 * words] % 128 != 0 {
+    let half = (wires / 64) as usize;
+    if packed[8 * half] % 128 != 0 {
         return Outcome::Refused(Refusal::SpareBit);
     }
-    put_entries(packed, words, out);
+    put_entries(packed, half, out);
     put_entry(out, WireNumber(wires - 1), bit_at(packed, wires - 1));
     Outcome::Done
 }

@@ -1,7 +1,7 @@
 // Words read off the wires of an assignment, where those are bits.
 ghost use mathlib.Core.Bool.{true};
 ghost use mathlib.Core.Path.{_≡_};
-ghost use Prim.Native.Nat.{ℕ, _+_, _*_, _<_, _≤_};
+ghost use Prim.Native.Nat.{_+_, _*_, _<_, _≤_};
 ghost use lib.ListN.{length};
 ghost use Rattle.satisfaction.specs.Agrees.{BitsOf, BitsOfState, BitsOfWords, IsWordRead, Stand};
 ghost use Rattle.satisfaction.specs.declared.word_read.StateRead.the-variants.{Words};

@@ -1,9 +1,8 @@
 -- The buffer keeps its length, so every place that is written lies within it.
-use mathlib.Core.Path.{_≡_, refl, _∙_}
+use mathlib.Core.Path.{_≡_}
 use Prim.Native.Nat.{_-_, _≤_}
-use native.Mathlib.Omega.{arith}
 use borrow.Author.Needs.{needs}
-use lib.ListN.{length, length-set}
+use lib.ListN.{length}
 use Rattle.packed_claims.proofs.put_front.Statement.{statement}
 use Rattle.packed_claims.proofs.put_front.Tie as tie
 

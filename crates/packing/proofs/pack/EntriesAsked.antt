@@ -1,6 +1,6 @@
 -- Refusal 10 is looked for from wire 0 on: where a wire reads as 0 or 1 the wires after it decide. So wires that stand as 0 and 1
 -- may be passed by.
-use mathlib.Core.Bool.{false, true}
+use mathlib.Core.Bool.{true}
 use mathlib.Core.List.{List}
 use mathlib.Core.Path.{_≡_}
 use Prim.Native.Nat.{ℕ, _+_, _-_, _≤_, _<_}

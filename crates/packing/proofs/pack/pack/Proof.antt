@@ -30,6 +30,9 @@ wire-count-requires c κs = search needs
 packed-length-requires : tie.Need-packed-length-requires
 packed-length-requires c κs = search needs
 
+mul-bytes : tie.Need-mul-bytes
+mul-bytes c = search needs
+
 returns-2 : tie.Need-returns-2
 unfolding packAnswer
 returns-2 c =
@@ -37,9 +40,6 @@ returns-2 c =
     let a = tests .before .before .before .args in
     let short : length (now (a .out)) < packedLength (wireCount (8 * a .size)) = omega arith in
     (simp (le-ltb _ _ (tests .if1 .left), lt-ltb _ _ short), refl)
-
-mul-if3 : tie.Need-mul-if3
-mul-if3 c = search needs
 
 returns-3 : tie.Need-returns-3
 unfolding packAnswer
@@ -121,8 +121,8 @@ pack-spec =
     mul-wire-count
     wire-count-requires
     packed-length-requires
+    mul-bytes
     returns-2
-    mul-if3
     returns-3
     words-stand-requires
     bits-in-all-requires

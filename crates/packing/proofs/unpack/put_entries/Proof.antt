@@ -1,14 +1,14 @@
--- Before turn j the entries of the first j words are written; a turn writes the 32 of the next, whose bits the word has.
+-- Before turn j the entries of the first j words of each half are written; a turn writes those of one word more of each.
 use mathlib.Core.List.{List}
-use mathlib.Core.Path.{_≡_, _∙_, ap, subst}
+use mathlib.Core.Path.{_≡_, _∙_, ap}
 use Prim.Native.Nat.{ℕ, _+_, _-_, _*_, _<_, _≤_}
 use native.Mathlib.Omega.{arith}
 use borrow.Author.Needs.{needs}
-use Rattle.assignment.proofs.Writes.{length-wrote, wrote-none, wrote-on}
-use Rattle.assignment.specs.Wrote.{Wrote}
+use Rattle.assignment.proofs.Writes.{length-wrote}
 use Rattle.encoding.proofs.Bits.{bit-of-bytes-lt}
 use Rattle.encoding.specs.Bits.{bitOfBytes, number}
 use Rattle.forms.specs.WordWires.{wordWires}
+use Rattle.packing.proofs.unpack.Halves.{Halves, both-halves, length-halves, no-word, one-word-each}
 use Rattle.sm3.proofs.WordBits.{bit-number}
 use Rattle.sm3.specs.Words.{bit}
 use Rattle.packing.proofs.unpack.put_entries.Statement.{statement}
@@ -24,13 +24,13 @@ word-bits packed j x e k l =
     ∙ ap (λ n. bitOfBytes packed (n + k)) place
 
 abbrev Inv-loop : tie.InvT-loop
-Inv-loop packed words out₀ j₀ out j = (j ≤ words) × Wrote 0 (32 * j) (bitOfBytes packed) out₀ out
+Inv-loop packed half out₀ j₀ out j = (j ≤ half) × Halves (bitOfBytes packed) half j out₀ out
 
 abbrev μ-loop : tie.MeasureT-loop
-μ-loop packed words out₀ j₀ out j = words - j
+μ-loop packed half out₀ j₀ out j = half - j
 
 loop-holds : tie.Need-loop-holds Inv-loop μ-loop
-loop-holds c = (omega arith, wrote-none _ _ _)
+loop-holds c = (omega arith, no-word _ _ _)
 
 mul-word-at : tie.Need-mul-word-at Inv-loop μ-loop
 mul-word-at c = search needs
@@ -38,11 +38,31 @@ mul-word-at c = search needs
 word-at-requires : tie.Need-word-at-requires Inv-loop μ-loop
 word-at-requires c κs = search needs
 
-mul-t12 : tie.Need-mul-t12 Inv-loop μ-loop
-mul-t12 c = search needs
+mul-t13 : tie.Need-mul-t13 Inv-loop μ-loop
+mul-t13 c = search needs
 
 put-word-requires : tie.Need-put-word-requires Inv-loop μ-loop
-put-word-requires c κs = omega (arith, length-wrote (c .before .before .before .loop .inv .1))
+put-word-requires c κs = omega (arith, length-halves (c .before .before .before .loop .inv .1))
+
+add-word-at : tie.Need-add-word-at Inv-loop μ-loop
+add-word-at c = search needs
+
+mul-word-at-2 : tie.Need-mul-word-at-2 Inv-loop μ-loop
+mul-word-at-2 c = search needs
+
+word-at-requires-2 : tie.Need-word-at-requires-2 Inv-loop μ-loop
+word-at-requires-2 c κs = search needs
+
+add-t15 : tie.Need-add-t15 Inv-loop μ-loop
+add-t15 c = search needs
+
+mul-t13-2 : tie.Need-mul-t13-2 Inv-loop μ-loop
+mul-t13-2 c = search needs
+
+put-word-requires-2 : tie.Need-put-word-requires-2 Inv-loop μ-loop
+put-word-requires-2 c κs =
+    let put = c .before .before .before .before in
+    omega (arith, length-wrote (put .put-word .ensures), length-halves (put .before .before .before .before .loop .inv .1))
 
 add-j : tie.Need-add-j Inv-loop μ-loop
 add-j c = search needs
@@ -52,22 +72,26 @@ loop-less c = search needs
 
 loop-again : tie.Need-loop-again Inv-loop μ-loop
 loop-again c =
-    let l = c .before .before .before .before .before .before in
-    let packed = l .before .before .before .args .packed .now in
-    let j = l .loop .j in
-    let count : 32 * j + 32 ≡ 32 * (j + 1) = omega arith in (
+    let put-2 = c .before .before in
+    let word-2 = put-2 .before .before in
+    let put = word-2 .before .before .before in
+    let word = put .before .before in
+    let l = word .before .before in
+    let a = l .before .before .before .args in
+    let packed = a .packed .now in
+    let j = l .loop .j in (
       omega arith,
-      subst (λ n. Wrote 0 n (bitOfBytes packed) (l .before .before .before .args .out .now) (c .before .before .put-word .last .0)) count
-          (wrote-on (32 * j) (omega arith) (word-bits packed j _ (c .before .before .before .before .word-at .ensures)) (l .loop .inv .1) (c .before .before .put-word .ensures)),
+      one-word-each (word .before .loop-test .taken) (l .loop .inv .1) (word-bits packed j _ (word .word-at .ensures)) (put .put-word .ensures)
+          (word-bits packed (a .half + j) _ (word-2 .word-at2 .ensures)) (put-2 .put-word2 .ensures),
     )
 
 same-length : tie.Need-same-length Inv-loop μ-loop
-same-length c = length-wrote (c .before .loop .inv .1)
+same-length c = length-halves (c .before .loop .inv .1)
 
 returns : tie.Need-returns Inv-loop μ-loop
 returns c =
-    let all : c .before .loop .j ≡ c .before .before .before .before .args .words = omega arith in
-    rw all at (c .before .loop .inv .1)
+    let all : c .before .loop .j ≡ c .before .before .before .before .args .half = omega arith in
+    both-halves (rw all at (c .before .loop .inv .1))
 
 pub put-entries-spec : {M : Type 1} → statement M
 put-entries-spec =
@@ -78,8 +102,14 @@ put-entries-spec =
     loop-holds
     mul-word-at
     word-at-requires
-    mul-t12
+    mul-t13
     put-word-requires
+    add-word-at
+    mul-word-at-2
+    word-at-requires-2
+    add-t15
+    mul-t13-2
+    put-word-requires-2
     add-j
     loop-less
     loop-again

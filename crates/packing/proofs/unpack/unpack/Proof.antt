@@ -1,4 +1,5 @@
 -- The tests are the refusals in their order; past them the words' entries are written, and behind them the last one.
+use mathlib.Core.List.{List}
 use mathlib.Core.Path.{_≡_, _∙_, ap, refl, subst, sym}
 use Prim.Native.Nat.{ℕ, _+_, _-_, _*_, _/_, _%_, _<_, _≤_}
 use native.Mathlib.Omega.{arith}
@@ -15,6 +16,14 @@ use Rattle.packing.specs.Unpack.{packedAnswer, unpackAnswer}
 use denote.Ref.{now}
 use Rattle.packing.proofs.unpack.unpack.Statement.{statement}
 use Rattle.packing.proofs.unpack.unpack.Tie as tie
+
+-- the spare bits are those of the byte behind the words
+spare-last : (L wires : ℕ) → wires ≡ wireCount (8 * L) → (packed : List ℕ)
+    → spareBits (wireCount (8 * L)) packed ≡ getD packed (8 * (wires / 64)) 0 % 128
+spare-last L wires counted packed =
+    let over : wireCount (8 * L) % 32 ≡ 1 = omega (arith, one-over (8 * L)) in
+    let place : wireCount (8 * L) / 8 ≡ 8 * (wires / 64) = omega (arith, one-over (8 * L)) in
+    spare-byte (wireCount (8 * L)) over packed ∙ ap (λ k. getD packed k 0 % 128) place
 
 returns : tie.Need-returns
 unfolding unpackAnswer
@@ -69,11 +78,7 @@ returns-4 c =
     let long : length (now (a .packed)) ≡ packedLength n =
     tests .if3 .left ∙ tests .before .packed-length .ensures ∙ ap packedLength counted in
     let set : spareBits n (now (a .packed)) ≡ 0 → ⊥ =
-    λ e.
-    c .if4 .taken
-    (ap (λ w. getD (now (a .packed)) (4 * (w / 32)) 0 % 128) counted
-    ∙ sym (spare-byte n (one-over (8 * a .size)) (now (a .packed)))
-    ∙ e) in
+    λ e. c .if4 .taken (sym (spare-last (a .size) _ counted (now (a .packed))) ∙ e) in
     (simp (le-ltb _ _ (tests .before .before .before .before .if1 .left), le-ltb _ _ room, eq-eqb _ _ long, ne-eqb _ _ set), refl)
 
 put-entries-requires : tie.Need-put-entries-requires
@@ -106,14 +111,14 @@ returns-5 c =
     let a = tests .before .before .before .before .before .before .before .args in
     let p = now (a .packed) in
     let n : ℕ = wireCount (8 * a .size) in
-    let over : n % 32 ≡ 1 = one-over (8 * a .size) in
+    let over : n % 64 ≡ 1 = one-over (8 * a .size) in
     let room : 8 * n ≤ length (now (a .out)) = omega arith in
     let long : length p ≡ packedLength n = tests .if3 .left ∙ tests .before .packed-length .ensures ∙ ap packedLength counted in
     let none : spareBits n p ≡ 0 =
-    spare-byte n over p ∙ ap (λ w. getD p (4 * (w / 32)) 0 % 128) (sym counted) ∙ spare .if4 .left in
-    let words : 32 * (tests .before .before .before .wire-count .result / 32) + 1 ≡ n = omega arith in
+    spare-last (a .size) _ counted p ∙ spare .if4 .left in
     let result : ℕ = tests .before .before .before .wire-count .result in
-    let last : result - 1 ≡ 32 * (result / 32) = omega arith in (
+    let words : 64 * (result / 64) + 1 ≡ n = omega arith in
+    let last : result - 1 ≡ 64 * (result / 64) = omega arith in (
       simp (le-ltb _ _ (tests .before .before .before .before .if1 .left), le-ltb _ _ room, eq-eqb _ _ long, eq-eqb _ _ none),
       wrote-front room
           (subst (λ m. Wrote 0 m (bitOfBytes p) (now (a .out)) (entry .put-entry .last .0)) words
