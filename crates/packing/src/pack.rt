@@ -77,6 +77,7 @@ fn word_of(assignment: &[u8], w: WireNumber, standing: bool) -> u32
         return number_from(assignment, w) as u32;
     }
     let WordRead::Word(x) = reduced_word(assignment, w) else {
+        // Never: all wires are bits.
         return 0;
     };
     x

@@ -89,7 +89,7 @@ pub fn reduced_word(assignment: &[u8], w: WireNumber) -> WordRead
 }
 
 // The word on the 32 wires from w on.
-pub fn read_word(assignment: &[u8], w: WireNumber) -> WordRead
+fn read_word(assignment: &[u8], w: WireNumber) -> WordRead
     requires { ⌜ 8 * (w .0 + 32) ≤ length (now assignment) ⌝ }
     ensures { λ r. ⌜ IsWordRead r (w .0) (now (assignment .entry)) ⌝ }
 {
