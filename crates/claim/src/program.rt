@@ -4,23 +4,14 @@ ghost use mathlib.Core.Path.{_≡_};
 ghost use lib.ListN.{length};
 use crate::answer::answer_to;
 use crate::answer::put_answer;
+use record::space::assignment_space;
 use text::console::Input;
 use text::console::print;
 use text::console::read_input;
 use text::console::say_unread;
 
-// The bytes of the longest assignment: 8 for each of 360,961 wires.
-const ASSIGNMENT_ROOM: usize = 2887688;
-
 // One byte more than the longest right input has: a line of 75 bytes and 45,121 packed bytes.
 const INPUT_ROOM: usize = 45197;
-
-// Room for the longest assignment.
-fn assignment_space() -> [u8; ASSIGNMENT_ROOM]
-    ensures { λ r. ⌜ 2887688 ≡ length r ⌝ }
-{
-    [0u8; ASSIGNMENT_ROOM]
-}
 
 // Room for the input.
 fn input_space() -> [u8; INPUT_ROOM]

@@ -2,3 +2,4 @@
 pub mod check;
 pub mod produce;
 pub mod row;
+pub mod space;

@@ -34,12 +34,10 @@ use crate::line::show;
 use circuit::wire::wire_count;
 use record::check::check;
 use record::produce::produce;
+use record::space::assignment_space;
 use refusal::outcome::Outcome;
 use sm3::digest::digest;
 use sm3::message::LONGEST;
-
-// The bytes of the longest assignment: 8 for each of 360,961 wires.
-const ROOM: usize = 2887688;
 
 // The digest of a record and its assignment, and the check of the one against the other.
 fn produce_and_check(bytes: &[u8], sum: &mut [u8], out: &mut [u8]) -> Outcome
@@ -83,15 +81,8 @@ fn try_length(n: usize, room: &mut [u8])
     try_record(&record[..n], room);
 }
 
-// Room for the longest assignment.
-fn space() -> [u8; ROOM]
-    ensures { λ r. ⌜ 2887688 ≡ length r ⌝ }
-{
-    [0u8; ROOM]
-}
-
 fn main() {
-    let mut room = space();
+    let mut room = assignment_space();
     try_length(0, &mut room);
     try_length(55, &mut room);
     try_length(56, &mut room);
