@@ -45,7 +45,7 @@ same-iff (suc n) f g = (
 )
 
 -- a test that refuses where P does not hold
-pub not-iff : (t : Bool) {P : Type 0} → (t ≡ true) ↔ P → (not t ≡ false) ↔ P
+not-iff : (t : Bool) {P : Type 0} → (t ≡ true) ↔ P → (not t ≡ false) ↔ P
 not-iff t h = Iff·trans (not-false t, ap not) h
 
 pub equal-iff : (x y : ℕ) → (not (eqb x y) ≡ false) ↔ (x ≡ y)

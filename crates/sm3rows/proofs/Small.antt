@@ -27,6 +27,7 @@ use Rattle.refusal.specs.Packing.{above}
 use Rattle.refusal.specs.Refusals.{outcomeValues, refusalValues}
 use Rattle.refusal.specs.declared.outcome.Outcome.the-variants.{Done, Refused}
 use Rattle.refusal.specs.declared.outcome.Outcome.{Outcome}
+use Rattle.refusal.specs.declared.outcome.Refusal.the-variants.{BufferTooShort, LengthAboveLimit}
 use Rattle.refusal.specs.declared.outcome.Refusal.{Refusal}
 use Rattle.satisfaction.specs.Lowest.{lowest}
 use Rattle.satisfaction.specs.declared.rows_check.Verdict.the-variants.{AllSatisfied}
@@ -50,14 +51,15 @@ tested : {A : Type 0} (P : A → Type 0) (t : Bool) {x y : A} → P x → (t ≡
 tested P true px py = px
 tested P false px py = py refl
 
+-- the two tests of an operation that takes a record and writes a buffer
+two-tests : (s t : Bool) → Small (cond s (Refused LengthAboveLimit) (cond t (Refused BufferTooShort) Done))
+two-tests s t = tested Small s (bare refl) (λ _. tested Small t (bare refl) (λ _. done-small))
+
 pub digest-small : (size room : ℕ) → Small (digestAnswer size room)
-digest-small size room =
-    tested Small (ltb longest size) (bare refl) (λ _. tested Small (ltb room 32) (bare refl) (λ _. done-small))
+digest-small size room = two-tests (ltb longest size) (ltb room 32)
 
 pub produce-small : (size room : ℕ) → Small (produceAnswer size room)
-produce-small size room =
-    tested Small (ltb longest size) (bare refl)
-    (λ _. tested Small (ltb room (8 * wireCount (8 * size))) (bare refl) (λ _. done-small))
+produce-small size room = two-tests (ltb longest size) (ltb room (8 * wireCount (8 * size)))
 
 counts-small : (size k : ℕ) → k < rowCount (8 * size) → SmallRow (counted (rowAt (8 * size) k))
 unfolding counted terms

@@ -26,14 +26,16 @@ apart : (w : ℕ) → Refused (EntryNotBit (record { 0 = w })) ≡ Done → ⊥
 apart w = refused-done _
 
 module _ (bytes : List ℕ) where
-  -- all wires are bits
+  -- the m wires from k on are bits, said of their numbers
+  all-bits : (k m : ℕ) → ((i : ℕ) → i < m → entry bytes (k + i) < 2)
+      → failing.AllHold (λ w. ltb (entry bytes w) 2) k (k + m)
+  all-bits k m bits i l h =
+      let place : k + (i - k) ≡ i = omega arith in
+      lt-ltb _ 2 (rw place at (bits (i - k) (omega arith)))
+
   pub bits-done : (k m : ℕ) → ((i : ℕ) → i < m → entry bytes (k + i) < 2) → bitsAnswer bytes k m ≡ Done
   unfolding bitsAnswer
-  bits-done k m bits =
-      failing.lowest-none _ _ Done k m
-      (λ i l h.
-      let place : k + (i - k) ≡ i = omega arith in
-      lt-ltb _ 2 (rw place at (bits (i - k) (omega arith))))
+  bits-done k m bits = failing.lowest-none _ _ Done k m (all-bits k m bits)
 
   pub done-bits : (m : ℕ) → bitsAnswer bytes 0 m ≡ Done → (w : ℕ) → w < m → entry bytes w < 2
   unfolding bitsAnswer
@@ -58,8 +60,4 @@ module _ (bytes : List ℕ) where
     -- the m wires from k on stand as 0 and 1
     pub bits-past : (m : ℕ) → k + m ≤ n → Stand k m bytes → bitsAnswer bytes k (n - k) ≡ bitsAnswer bytes (k + m) (n - (k + m))
     unfolding bitsAnswer
-    bits-past m l stand =
-        failing.lowest-past _ _ Done n k m l
-        (λ i from below.
-        let place : k + (i - k) ≡ i = omega arith in
-        lt-ltb _ 2 (rw place at (stand-bit stand (i - k) (omega arith))))
+    bits-past m l stand = failing.lowest-past _ _ Done n k m l (all-bits k m (stand-bit stand))
