@@ -4,13 +4,13 @@
 use mathlib.Core.List.{List}
 use mathlib.Core.Path.{_≡_, refl, sym, ap, ap₂, _∙_}
 use Prim.Native.Nat.{ℕ, zero, suc, _+_, _-_, _*_, _/_, _%_, _^_, _<_}
-use native.Mathlib.Nat.{add-suc, add-zero, div-one, le-refl, mod-eq-of-lt, mod-one, mul-assoc, mul-one, pow-suc, zero-div}
+use native.Mathlib.Nat.{add-suc, add-zero, div-one, le-refl, mod-eq-of-lt, mod-one, mul-assoc, mul-one, one-mul, pow-suc, zero-div}
 use native.Mathlib.Numerals.{add-one}
 use native.Mathlib.Omega.{arith}
 use lib.Arith.{digits-lt, digits-mod}
 use lib.Dec.{lit<}
 use lib.ListN.{getD}
-use lib.Pow.{high, mod-pow-add, shr-shr}
+use lib.Pow.{high, mod-pow-add, shl-exact, shr-shr}
 use Rattle.encoding.specs.Bits.{bitOfBytes, number}
 
 -- n bits write a number below 2^n
@@ -70,6 +70,10 @@ pub zero-bits : (n : ℕ) (b : ℕ → ℕ) → ((i : ℕ) → i < n → b i < 2
 zero-bits n b bits e i l =
     sym (bit-of-number n b i bits l) ∙ ap (λ x. x / 2 ^ (n - 1 - i) % 2) e
     ∙ ap (λ x. x % 2) (zero-div (2 ^ (n - 1 - i)))
+
+-- the bit 1, shifted to a low place of 64 bits
+pub one-shifted : (k : ℕ) → k < 64 → 1 * 2 ^ k % 2 ^ 64 ≡ 2 ^ k
+one-shifted k l = shl-exact {a = 1} 1 k 64 (lit< tt) (omega arith) ∙ one-mul (2 ^ k)
 
 -- Bytes.
 

@@ -3,6 +3,7 @@ pub mod ByteBits
 pub mod Bytes
 pub mod Filling
 pub mod Lowest
+pub mod PackedBits
 pub mod Regroup
 pub mod Sequence
 pub mod Tab

@@ -10,7 +10,7 @@ use Rattle.refusal.specs.Refusals.{refusalNumber, refusalValues}
 use Rattle.refusal.specs.declared.outcome.Outcome.{Outcome}
 use Rattle.refusal.specs.declared.outcome.Outcome.the-variants.{Done, Refused}
 use Rattle.refusal.specs.declared.outcome.Refusal.{Refusal}
-use Rattle.refusal.specs.declared.outcome.Refusal.the-variants.{LengthAboveLimit, RowOutOfRange, BufferTooShort, DigestNot32, WrongLength, WireZero, DigestWire, Unsatisfied, EntryNotBit, WrongPackedLength, SpareBit}
+use Rattle.refusal.specs.declared.outcome.Refusal.the-variants.{LengthAboveLimit, RowOutOfRange, BufferTooShort, DigestNot32, WrongLength, WireZero, DigestWire, Unsatisfied, EntryNotBit, WrongPackedLength, SpareBit, WrongRecordLength, BitAfterRecord}
 
 -- what can be read back is equal where its numbers are
 pub injective : {A : Type 0} (f : A → ℕ) (g : ℕ → A) {a b : A} → g (f a) ≡ a → g (f b) ≡ b → f a ≡ f b → a ≡ b
@@ -32,7 +32,9 @@ refusalOfNumber n k =
     (cond (eqb n 8) DigestWire
     (cond (eqb n 9) (Unsatisfied (record { 0 = k }))
     (cond (eqb n 10) (EntryNotBit (record { 0 = k }))
-    (cond (eqb n 11) WrongPackedLength SpareBit)))))))))
+    (cond (eqb n 11) WrongPackedLength
+    (cond (eqb n 12) SpareBit
+    (cond (eqb n 13) WrongRecordLength BitAfterRecord)))))))))))
 
 refusalBack : ℕ → Refusal
 refusalBack v = refusalOfNumber (v % 256) (v / 256)
@@ -59,6 +61,8 @@ refusal-back (EntryNotBit w) =
     named-back 10 (w .0) (packed (refusalNumber (EntryNotBit w)) (refusalValues (EntryNotBit w))) (omega arith) (omega arith)
 refusal-back WrongPackedLength = refl
 refusal-back SpareBit = refl
+refusal-back WrongRecordLength = refl
+refusal-back BitAfterRecord = refl
 
 pub refusal-injective : (r s : Refusal)
     → packed (refusalNumber r) (refusalValues r) ≡ packed (refusalNumber s) (refusalValues s) → r ≡ s
@@ -78,6 +82,8 @@ refused (Unsatisfied k) e = omega arith
 refused (EntryNotBit w) e = omega arith
 refused WrongPackedLength e = omega arith
 refused SpareBit e = omega arith
+refused WrongRecordLength e = omega arith
+refused BitAfterRecord e = omega arith
 
 pub outcome-injective : (a b : Outcome) → packedOutcome a ≡ packedOutcome b → a ≡ b
 outcome-injective Done Done e = refl

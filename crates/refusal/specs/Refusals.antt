@@ -5,10 +5,10 @@ use Prim.Native.Nat.{ℕ}
 use Rattle.refusal.specs.declared.outcome.Outcome.{Outcome}
 use Rattle.refusal.specs.declared.outcome.Outcome.the-variants.{Done, Refused}
 use Rattle.refusal.specs.declared.outcome.Refusal.{Refusal}
-use Rattle.refusal.specs.declared.outcome.Refusal.the-variants.{LengthAboveLimit, RowOutOfRange, BufferTooShort, DigestNot32, WrongLength, WireZero, DigestWire, Unsatisfied, EntryNotBit, WrongPackedLength, SpareBit}
+use Rattle.refusal.specs.declared.outcome.Refusal.the-variants.{LengthAboveLimit, RowOutOfRange, BufferTooShort, DigestNot32, WrongLength, WireZero, DigestWire, Unsatisfied, EntryNotBit, WrongPackedLength, SpareBit, WrongRecordLength, BitAfterRecord}
 
 abbrev pub refusalNumber : Refusal → ℕ
--- "2. The record length is above 1,015."
+-- "2. The record length is above" the limit, from document 02's request 2 on 8,127 bits
 refusalNumber LengthAboveLimit = 2
 -- "3. The row number is not below the row count"
 refusalNumber RowOutOfRange = 3
@@ -30,6 +30,10 @@ refusalNumber (EntryNotBit w) = 10
 refusalNumber WrongPackedLength = 11
 -- "12, a spare bit is set"
 refusalNumber SpareBit = 12
+-- document 02, request 2: "13, the record's bytes are not the bits over 8 rounded up"
+refusalNumber WrongRecordLength = 13
+-- "14, a bit after the last record bit is set"
+refusalNumber BitAfterRecord = 14
 
 abbrev pub refusalValues : Refusal → List ℕ
 refusalValues LengthAboveLimit = []
@@ -45,6 +49,8 @@ refusalValues (Unsatisfied k) = k .0 ∷ []
 refusalValues (EntryNotBit w) = w .0 ∷ []
 refusalValues WrongPackedLength = []
 refusalValues SpareBit = []
+refusalValues WrongRecordLength = []
+refusalValues BitAfterRecord = []
 
 -- the answer of an operation that hands nothing back: 0 for no refusal
 abbrev pub outcomeNumber : Outcome → ℕ

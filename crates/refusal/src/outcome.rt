@@ -7,7 +7,7 @@ use crate::numbers::WireNumber;
 
 // The refusals that several operations share, in the order of their numbers.
 pub enum Refusal {
-    // 2: the record length is above 1,015.
+    // 2: the record length is above 8,127 bits.
     LengthAboveLimit,
     // 3: the row number is not below the row count.
     RowOutOfRange,
@@ -29,6 +29,10 @@ pub enum Refusal {
     WrongPackedLength,
     // 12: a spare bit is set.
     SpareBit,
+    // 13: the record's bytes are not its bits over 8 rounded up.
+    WrongRecordLength,
+    // 14: a bit after the last record bit is set.
+    BitAfterRecord,
 }
 
 // The answer of an operation that hands nothing back: it is done, or it is refused and no lent byte is altered.
@@ -53,5 +57,7 @@ pub fn number_of(refusal: Refusal) -> u64
         Refusal::EntryNotBit(_) => 10,
         Refusal::WrongPackedLength => 11,
         Refusal::SpareBit => 12,
+        Refusal::WrongRecordLength => 13,
+        Refusal::BitAfterRecord => 14,
     }
 }

@@ -23,6 +23,8 @@ fn value_of(refusal: Refusal) -> u64
         Refusal::EntryNotBit(wire) => wire.0,
         Refusal::WrongPackedLength => 0,
         Refusal::SpareBit => 0,
+        Refusal::WrongRecordLength => 0,
+        Refusal::BitAfterRecord => 0,
     }
 }
 

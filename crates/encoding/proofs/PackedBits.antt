@@ -1,20 +1,21 @@
--- Packed bytes and the values of the wires. The bits of packed bytes are those values and then zeros, and bytes are determined by
--- their bits: so packed bytes are known by the values and by their spare bits, which are 0.
+-- Packed bytes and the bits that are packed. The bits of packed bytes are these and then zeros, and bytes are determined by
+-- their bits: so packed bytes are known by the bits that are packed and by their spare bits, which are 0. The spare bits are
+-- the low ones of the last byte.
 use mathlib.Core.List.{List}
 use mathlib.Core.Logic.{by-cases}
 use mathlib.Core.Path.{_≡_, _∙_, ap, subst, sym}
-use Prim.Native.Nat.{ℕ, _+_, _-_, _*_, _<_}
+use Prim.Native.Nat.{ℕ, _+_, _-_, _*_, _/_, _%_, _^_, _<_}
 use native.Mathlib.Decide.{decLt}
 use native.Mathlib.Omega.{arith}
 use lib.Dec.{lit<}
-use lib.ListN.{length}
-use Rattle.encoding.proofs.Bits.{bit-of-bytes-lt, number-zero, zero-bits}
+use lib.ListN.{getD, length}
+use Rattle.encoding.proofs.Bits.{bit-of-byte, bit-of-bytes-lt, number-cong, number-of-bits, number-zero, zero-bits}
 use Rattle.encoding.proofs.ByteBits.{bit-of-bits, bytes-ext, bytes-of-bits, length-bytes-of-bits}
 use Rattle.encoding.proofs.Sequence.{beside-first, beside-then}
-use Rattle.encoding.specs.Bits.{bitOfBytes}
+use Rattle.encoding.specs.Bits.{bitOfBytes, number}
 use Rattle.encoding.specs.Bytes.{Bytes}
 use Rattle.encoding.specs.Sequence.{beside}
-use Rattle.packing.specs.Packed.{packedBytes, packedLength, spareBits}
+use Rattle.encoding.specs.Packed.{packedBytes, packedLength, spareBits}
 
 pub length-packed : (n : ℕ) (s : ℕ → ℕ) → length (packedBytes n s) ≡ packedLength n
 unfolding packedBytes
@@ -28,7 +29,7 @@ module _ (n : ℕ) (s : ℕ → ℕ) (bits : (w : ℕ) → w < n → s w < 2) wh
       let place : n + (k - n) ≡ k = omega arith in
       subst (λ i. beside n s (λ k. 0) i < 2) place (subst (λ x. x < 2) (sym (beside-then n s (λ k. 0) (k - n))) (lit< tt)))
 
-  packed-bytes : Bytes (packedBytes n s)
+  pub packed-bytes : Bytes (packedBytes n s)
   unfolding packedBytes
   packed-bytes = bytes-of-bits (packedLength n) _ (λ k l. all-bits k)
 
@@ -61,3 +62,24 @@ module _ (n : ℕ) (s : ℕ → ℕ) (bits : (w : ℕ) → w < n → s w < 2) wh
       ∙ ap (beside n s (λ k. 0)) (sym place)
       ∙ beside-then n s (λ k. 0) (k - n)
       ∙ sym (ap (bitOfBytes p) (sym place) ∙ zero)))
+
+-- Where n bits do not fill their last byte, the spare bits are its low ones.
+pub spare-low : (n : ℕ) (packed : List ℕ) → 0 < n % 8 → spareBits n packed ≡ getD packed (n / 8) 0 % 2 ^ (8 - n % 8)
+unfolding spareBits
+spare-low n packed inside =
+    let count : 8 * packedLength n - n ≡ 8 - n % 8 = omega arith in
+    ap (λ m. number m (λ k. bitOfBytes packed (n + k))) count
+    ∙ number-cong (8 - n % 8) _ _
+    (λ i l.
+    let place : n + i ≡ 8 * (n / 8) + (n % 8 + i) = omega arith in
+    let weight : 7 - (n % 8 + i) ≡ 8 - n % 8 - 1 - i = omega arith in
+    ap (bitOfBytes packed) place
+    ∙ bit-of-byte packed (n / 8) (n % 8 + i) (omega arith)
+    ∙ ap (λ k. getD packed (n / 8) 0 / 2 ^ k % 2) weight)
+    ∙ number-of-bits (8 - n % 8) (getD packed (n / 8) 0)
+
+pub spare-none : (n : ℕ) (packed : List ℕ) → n % 8 ≡ 0 → spareBits n packed ≡ 0
+unfolding spareBits number
+spare-none n packed whole =
+    let count : 8 * packedLength n - n ≡ 0 = omega arith in
+    ap (λ m. number m (λ k. bitOfBytes packed (n + k))) count
