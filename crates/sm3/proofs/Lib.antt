@@ -1,4 +1,5 @@
 pub mod Bits
 pub mod Bounds
 pub mod Rotation
+pub mod WholeBytes
 pub mod WordBits

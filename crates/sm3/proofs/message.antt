@@ -1,2 +1,3 @@
-pub mod Padding
+pub mod MessageBits
 pub mod PaddedBlock
+pub mod Padding

@@ -1,4 +1,6 @@
 pub mod Digest
+pub mod Handed
 pub mod Message
 pub mod Sm3
+pub mod WholeBytes
 pub mod Words

@@ -1,24 +1,19 @@
--- The message of a record and its digest (document 01, "SM3 as used" and "The words of demand 3"). A record is n bits;
--- that it comes in whole bytes is a matter of the operations.
+-- The message of a record and its digest (document 01, "SM3 as used" and "The words of demand 3"). A record is n bits; how
+-- it is handed over in bytes says specs/Handed.
 use mathlib.Core.Bool.{cond}
 use mathlib.Core.List.{List, _++_}
 use Prim.Native.Nat.{ℕ, zero, suc, _+_, _-_, _*_, _/_, _%_, _^_}
 use lib.Dec.{ltb, eqb}
-use lib.ListN.{length}
 use Rattle.encoding.specs.Bits.{bitOfBytes}
 use Rattle.encoding.specs.Bytes.{highestFirst}
 use Rattle.sm3.specs.Sm3.{start, block}
 use Rattle.sm3.specs.declared.state.State.{State}
 
--- "Record of L bytes, 0 to 1,015"
-abbrev pub longest : ℕ
-longest = 1015
-
--- the most bits that are padded to as many blocks as 1,015 bytes are: one more bit, and the message has a block more
+-- "The length becomes a bit count from 0 to 8,127 everywhere" (document 02, request 2)
 abbrev pub mostBits : ℕ
 mostBits = 8127
 
--- "blocks n = floor((L + 8) / 64) + 1", in bits
+-- "blocks are floor((bits + 64) / 512) + 1"
 unfoldable pub blocks : ℕ → ℕ
 blocks n = (n + 64) / 512 + 1
 
@@ -49,6 +44,6 @@ bytesOf s =
     highestFirst 4 (s .a) ++ highestFirst 4 (s .b) ++ highestFirst 4 (s .c) ++ highestFirst 4 (s .d)
     ++ highestFirst 4 (s .e) ++ highestFirst 4 (s .f) ++ highestFirst 4 (s .g) ++ highestFirst 4 (s .h)
 
--- the digest of a record of whole bytes
-unfoldable pub digestBytes : List ℕ → List ℕ
-digestBytes bytes = bytesOf (digestOf (8 * length bytes) (bitOfBytes bytes))
+-- the digest of a record of n bits that is handed over in these bytes
+unfoldable pub digestBytes : ℕ → List ℕ → List ℕ
+digestBytes n bytes = bytesOf (digestOf n (bitOfBytes bytes))

@@ -5,7 +5,7 @@ ghost use Prim.Native.Nat.{_≤_};
 ghost use lib.ListN.{length, drop};
 ghost use Rattle.sm3.specs.Digest.{digestAnswer, digestLeft};
 ghost use Rattle.sm3.specs.Message.{bytesOf};
-use crate::message::LONGEST;
+use crate::handed::handed;
 use crate::message::hash;
 use crate::state::State;
 use encoding::write::put_word;
@@ -30,18 +30,19 @@ fn put_digest(out: &mut [u8], s: State)
     put_word(out, 28, s.h);
 }
 
-// The digest of a record of at most 1,015 bytes, into the first 32 bytes of `out`.
-pub fn digest(bytes: &[u8], out: &mut [u8]) -> Outcome
-    ensures { λ r. ⌜ r ≡ digestAnswer (length (now (bytes .entry))) (length (now (out .entry))) ⌝ }
-    ensures { λ r. ⌜ now (out .exit) ≡ digestLeft r (now (bytes .entry)) (now (out .entry)) ⌝ }
+// The digest of a record of at most 8,127 bits, into the first 32 bytes of `out`.
+pub fn digest(bits: u64, bytes: &[u8], out: &mut [u8]) -> Outcome
+    ensures { λ r. ⌜ r ≡ digestAnswer bits (now (bytes .entry)) (length (now (out .entry))) ⌝ }
+    ensures { λ r. ⌜ now (out .exit) ≡ digestLeft r bits (now (bytes .entry)) (now (out .entry)) ⌝ }
 {
-    if LONGEST < bytes.len() as u64 {
-        return Outcome::Refused(Refusal::LengthAboveLimit);
+    let answer = handed(bits, bytes);
+    if let Outcome::Refused(refusal) = answer {
+        return Outcome::Refused(refusal);
     }
     if out.len() < DIGEST_BYTES {
         return Outcome::Refused(Refusal::BufferTooShort);
     }
-    let s = hash(bytes);
+    let s = hash(bits, bytes);
     put_digest(out, s);
     Outcome::Done
 }

@@ -1,8 +1,9 @@
-// SM3 by GB/T 32905-2016: the digest of a record of 0 to 1,015 bytes.
+// SM3 by GB/T 32905-2016: the digest of a record of 0 to 8,127 bits.
 pub mod block;
 pub mod constants;
 pub mod digest;
 pub mod expansion;
+pub mod handed;
 pub mod message;
 pub mod rounds;
 pub mod state;

@@ -1,19 +1,21 @@
 // The blocks of a record's padded message, one at a time.
 ghost use mathlib.Core.Path.{_≡_};
-ghost use Prim.Native.Nat.{ℕ, _+_, _*_, _/_, _%_, _<_, _≤_};
+ghost use Prim.Native.Nat.{ℕ, _+_, _-_, _*_, _/_, _%_, _<_, _≤_, _^_};
 ghost use lib.ListN.{length, getD, set, take};
-ghost use Rattle.sm3.specs.Message.{blockBits, blocks, digestOf, longest, message, mostBits};
+ghost use Rattle.sm3.specs.Message.{blockBits, blocks, digestOf, message, mostBits};
 ghost use Rattle.sm3.specs.Sm3.{block, expansion, rotatedConstant};
 ghost use Rattle.encoding.specs.Bits.{bitOfBytes};
+ghost use Rattle.encoding.specs.Packed.{packedLength};
 ghost use Rattle.encoding.specs.Sequence.{tab};
 use crate::block::compress;
 use crate::constants::rotated_constants;
 use crate::constants::start_state;
 use crate::expansion::block_words;
 use crate::state::State;
+use encoding::read::wide;
 
-// The longest record, in bytes.
-pub const LONGEST: u64 = 1015;
+// The most bits of a record.
+pub const MOST_BITS: u64 = 8127;
 
 // How many blocks the message of a record of so many bits has.
 pub fn block_count(bits: u64) -> u64
@@ -23,9 +25,9 @@ pub fn block_count(bits: u64) -> u64
     (bits + 64) / 512 + 1
 }
 
-// The bytes of the record from `at` on, fewer than 64, with zeros after them.
+// The bytes of the record from `at` on, at most 64, with zeros after them.
 fn tail(bytes: &[u8], at: usize) -> [u8; 64]
-    requires { ⌜ (at ≤ length (now bytes)) × (length (now bytes) < at + 64) ⌝ }
+    requires { ⌜ (at ≤ length (now bytes)) × (length (now bytes) ≤ at + 64) ⌝ }
     ensures { λ r. ⌜ r ≡ tab 64 (λ (k : ℕ). getD (now (bytes .entry)) (at + k) 0) ⌝ }
 {
     let n = bytes.len() - at;
@@ -36,67 +38,84 @@ fn tail(bytes: &[u8], at: usize) -> [u8; 64]
     b
 }
 
-// The bit length of a record of n bytes, 8 * n, in a block's last two bytes: n is too small for the six before them.
-fn with_length(b: [u8; 64], n: usize) -> [u8; 64]
-    requires { ⌜ n ≤ longest ⌝ }
-    ensures { λ r. ⌜ r ≡ set (set b 62 (n / 32)) 63 (n % 32 * 8) ⌝ }
+// In which byte of the block that begins with bit `from` of the message the record ends.
+fn end_place(bits: u64, from: u64) -> usize
+    requires { ⌜ (from ≤ bits) × (bits < from + 512) ⌝ }
+    ensures { λ r. ⌜ r ≡ (bits - from) / 8 ⌝ }
+{
+    ((bits - from) / 8) as usize
+}
+
+// The byte in which a record ends: its first `used` bits are the record's, then come the bit 1 and zeros.
+fn cut_byte(x: u8, used: u64) -> u8
+    requires { ⌜ used < 8 ⌝ }
+    ensures { λ r. ⌜ r ≡ x / 2 ^ (8 - used) * 2 ^ (8 - used) + 2 ^ (7 - used) ⌝ }
+{
+    let spare = 8 - used;
+    let kept = wide(x) >> spare << spare;
+    (kept + (1 << (7 - used))) as u8
+}
+
+// A block with the bit length of a record in its last two bytes: it is too small for the six before them.
+fn with_length(b: [u8; 64], bits: u64) -> [u8; 64]
+    requires { ⌜ bits ≤ mostBits ⌝ }
+    ensures { λ r. ⌜ r ≡ set (set b 62 (bits / 256)) 63 (bits % 256) ⌝ }
 {
     let mut r = b;
-    r[62] = (n / 32) as u8;
-    r[63] = (n % 32 * 8) as u8;
+    r[62] = (bits / 256) as u8;
+    r[63] = (bits % 256) as u8;
     r
 }
 
 // Block i of the message, one that the record does not fill, as bytes: the end of the record, the bit 1, zeros and in
 // the last block the bit length.
-fn padded(bytes: &[u8], i: usize) -> [u8; 64]
-    requires { ⌜ (length (now bytes) ≤ longest) × (i < blocks (8 * length (now bytes))) × (length (now bytes) < 64 * i + 64) ⌝ }
-    ensures { λ r. ⌜ ((k : ℕ) → k < 512 → bitOfBytes r k ≡ blockBits (message (8 * length (now (bytes .entry))) (bitOfBytes (now (bytes .entry)))) i k) ⌝ }
+fn padded(bits: u64, bytes: &[u8], i: usize) -> [u8; 64]
+    requires { ⌜ (bits ≤ mostBits) × (length (now bytes) ≡ packedLength bits) × (i < blocks bits) × (bits < 512 * i + 512) ⌝ }
+    ensures { λ r. ⌜ ((k : ℕ) → k < 512 → bitOfBytes r k ≡ blockBits (message bits (bitOfBytes (now (bytes .entry)))) i k) ⌝ }
 {
-    let n = bytes.len();
-    let at = 64 * i;
-    if n < at {
-        return with_length([0u8; 64], n);
+    let from = 512 * i as u64;
+    if bits < from {
+        return with_length([0u8; 64], bits);
     }
-    let mut b = tail(bytes, at);
-    b[n - at] = 128;
-    if n + 9 <= at + 64 {
-        return with_length(b, n);
+    let mut b = tail(bytes, 64 * i);
+    let end = end_place(bits, from);
+    b[end] = cut_byte(b[end], bits % 8);
+    if bits + 65 <= from + 512 {
+        return with_length(b, bits);
     }
     b
 }
 
 // W0 to W15 of block i of the message, with room for the words after them. A block that the record fills is read in place.
-pub fn message_words(bytes: &[u8], i: usize) -> [u32; 68]
-    requires { ⌜ (length (now bytes) ≤ longest) × (i < blocks (8 * length (now bytes))) ⌝ }
-    ensures { λ r. ⌜ (length r ≡ 68) × (take 16 r ≡ expansion (blockBits (message (8 * length (now (bytes .entry))) (bitOfBytes (now (bytes .entry)))) i) 16) ⌝ }
+pub fn message_words(bits: u64, bytes: &[u8], i: usize) -> [u32; 68]
+    requires { ⌜ (bits ≤ mostBits) × (length (now bytes) ≡ packedLength bits) × (i < blocks bits) ⌝ }
+    ensures { λ r. ⌜ (length r ≡ 68) × (take 16 r ≡ expansion (blockBits (message bits (bitOfBytes (now (bytes .entry)))) i) 16) ⌝ }
 {
-    let at = 64 * i;
-    if at + 64 <= bytes.len() {
-        return block_words(bytes, at);
+    if 512 * i as u64 + 512 <= bits {
+        return block_words(bytes, 64 * i);
     }
-    let b = padded(bytes, i);
+    let b = padded(bits, bytes, i);
     block_words(&b, 0)
 }
 
 // What block i + 1 begins with, where block i begins with v.
-fn next_state(v: State, bytes: &[u8], i: usize, t: &[u32; 64]) -> State
-    requires { ⌜ (length (now bytes) ≤ longest) × (i < blocks (8 * length (now bytes))) × (now t ≡ tab 64 rotatedConstant) ⌝ }
-    ensures { λ r. ⌜ r ≡ block (blockBits (message (8 * length (now (bytes .entry))) (bitOfBytes (now (bytes .entry)))) i) v ⌝ }
+fn next_state(v: State, bits: u64, bytes: &[u8], i: usize, t: &[u32; 64]) -> State
+    requires { ⌜ (bits ≤ mostBits) × (length (now bytes) ≡ packedLength bits) × (i < blocks bits) × (now t ≡ tab 64 rotatedConstant) ⌝ }
+    ensures { λ r. ⌜ r ≡ block (blockBits (message bits (bitOfBytes (now (bytes .entry)))) i) v ⌝ }
 {
-    compress(v, message_words(bytes, i), t)
+    compress(v, message_words(bits, bytes, i), t)
 }
 
-// The digest of a record, as words.
-pub fn hash(bytes: &[u8]) -> State
-    requires { ⌜ length (now bytes) ≤ longest ⌝ }
-    ensures { λ r. ⌜ r ≡ digestOf (8 * length (now (bytes .entry))) (bitOfBytes (now (bytes .entry))) ⌝ }
+// The digest of a record of so many bits, as words.
+pub fn hash(bits: u64, bytes: &[u8]) -> State
+    requires { ⌜ (bits ≤ mostBits) × (length (now bytes) ≡ packedLength bits) ⌝ }
+    ensures { λ r. ⌜ r ≡ digestOf bits (bitOfBytes (now (bytes .entry))) ⌝ }
 {
-    let n = block_count(8 * bytes.len() as u64) as usize;
+    let n = block_count(bits) as usize;
     let t = rotated_constants();
     let mut v = start_state();
     for i in 0..n {
-        v = next_state(v, bytes, i, &t);
+        v = next_state(v, bits, bytes, i, &t);
     }
     v
 }

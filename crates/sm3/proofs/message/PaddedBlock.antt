@@ -1,100 +1,128 @@
--- The blocks that a record does not fill, as lists of bytes: zeros past the record, or the record's last bytes and the
--- byte 128; in the last block with the bit length at its end. Each list is the message's bytes of its block.
+-- The blocks that a record does not fill, as lists of bytes: zeros past the record, or the record's last bytes with its end cut; in
+-- the last block with the bit length in the last two bytes, since the six before them are 0. Each byte is the message's.
 use mathlib.Core.List.{List}
-use mathlib.Core.Path.{_≡_, sym, ap, _∙_}
-use Prim.Native.Nat.{ℕ, _+_, _-_, _*_, _/_, _%_, _^_, _≤_, _<_}
+use mathlib.Core.Path.{_≡_, refl, sym, ap, ap₂, subst, _∙_}
+use Prim.Native.Nat.{ℕ, suc, _+_, _-_, _*_, _/_, _%_, _^_, _≤_, _<_}
 use native.Mathlib.Decide.{ℕ-discrete, decLt}
 use native.Mathlib.Nat.{div-eq-of-lt}
 use native.Mathlib.Omega.{arith}
-use borrow.Author.Tests.{eq-eqb, ne-eqb, lt-ltb, le-ltb}
+use borrow.Author.Tests.{eq-eqb, ne-eqb}
 use lib.ListN.{length, getD, set, List·getD-eq-default}
 use lib.Pow.{pow-mono}
-use Rattle.sm3.specs.Message.{blocks, longest}
-use Rattle.sm3.proofs.message.Padding.{blocks-of-bytes, ended, messageByte}
 use Rattle.encoding.proofs.Filling.{set-tab, wrote}
-use Rattle.encoding.proofs.Tab.{tab-congruent}
+use Rattle.encoding.proofs.Tab.{getD-tab}
+use Rattle.encoding.specs.Packed.{packedLength}
 use Rattle.encoding.specs.Sequence.{tab}
+use Rattle.sm3.proofs.message.Padding.{IsByte, cutAfter, in-record, length-byte, past-record, record-end}
+use Rattle.sm3.specs.Message.{blocks, mostBits}
 
--- of the bytes of a bit length 8 * n, counted from the last, all but two are 0
-high-byte : (n m : ℕ) → n ≤ longest → 2 ≤ m → 8 * n / 2 ^ (8 * m) % 256 ≡ 0
+-- of the bytes of a bit length, counted from the last, all but two are 0
+high-byte : (n m : ℕ) → n ≤ mostBits → 2 ≤ m → n / 2 ^ (8 * m) % 256 ≡ 0
 high-byte n m h l =
     let bits : 16 ≤ 8 * m = omega arith in
     let large : 2 ^ 16 ≤ 2 ^ (8 * m) = pow-mono bits in
-    let none : 8 * n / 2 ^ (8 * m) ≡ 0 = div-eq-of-lt (omega arith) in
+    let none : n / 2 ^ (8 * m) ≡ 0 = div-eq-of-lt (omega arith) in
     ap (λ (t : ℕ). t % 256) none
 
-module _ (bytes : List ℕ) (i : ℕ) where
-  abbrev L : ℕ
-  L = length bytes
+module _ (n : ℕ) (bytes : List ℕ) (i : ℕ) where
+  -- the bytes of block i up to the bit length: the message's before it, and 0 past the record
+  pub record Laid (f : ℕ → ℕ) : Type 0 where
+    pub before-length : (x : ℕ) → 8 * (64 * i + x) + 8 ≤ 512 * blocks n - 64 → IsByte n bytes (64 * i + x) (f x)
+    pub past : (x : ℕ) → n < 8 * (64 * i + x) → f x ≡ 0
 
-  -- how many bytes the message has
-  abbrev size : ℕ
-  size = 64 * blocks (8 * L)
+  -- a block past the record
+  pub zeros-laid : n < 512 * i → Laid (λ x. 0)
+  zeros-laid h =
+      record { before-length = λ x l. past-record n bytes (64 * i + x) (omega arith) l; past = λ x l. refl }
 
+  -- The block in which the record ends.
   abbrev recordByte : ℕ → ℕ
   recordByte x = getD bytes (64 * i + x) 0
 
-  abbrev endedByte : ℕ → ℕ
-  endedByte x = ended bytes (64 * i + x)
+  abbrev end : ℕ
+  end = (n - 512 * i) / 8
 
-  abbrev blockByte : ℕ → ℕ
-  blockByte x = messageByte bytes (64 * i + x)
+  abbrev endedByte : ℕ
+  endedByte = cutAfter (7 - n % 8) (recordByte end)
 
-  past : (x : ℕ) → L < 64 * i + x → endedByte x ≡ 0
-  past x h = simp (ne-eqb (64 * i + x) L (omega arith)) (List·getD-eq-default bytes 0 (omega arith))
+  abbrev pub endedBytes : ℕ → ℕ
+  endedBytes = wrote recordByte end endedByte
 
-  -- the record's last bytes and the byte 128
-  pub tail-ended :
-      64 * i ≤ L → L < 64 * i + 64 → (t : List ℕ) → t ≡ tab 64 recordByte → set t (L - 64 * i) 128 ≡ tab 64 endedByte
-  tail-ended h l t e =
-      ap (λ (u : List ℕ). set u (L - 64 * i) 128) e
-      ∙ set-tab 64 recordByte (L - 64 * i) 128 (omega arith)
-      ∙ tab-congruent 64 _ _ (λ x b. by x (ℕ-discrete x (L - 64 * i)))
-    where
-      by : (x : ℕ) → Dec (x ≡ L - 64 * i) → wrote recordByte (L - 64 * i) 128 x ≡ endedByte x
-      by x (yes e) = simp (eq-eqb x (L - 64 * i) e, eq-eqb (64 * i + x) L (omega arith))
-      by x (no e) = simp (ne-eqb x (L - 64 * i) e, ne-eqb (64 * i + x) L (omega arith))
+  module _ (from : 512 * i ≤ n) where
+    at-end : (x : ℕ) → x ≡ end → endedBytes x ≡ cutAfter (7 - n % 8) (recordByte x)
+    at-end x e = simp (eq-eqb x end e) (ap (λ k. cutAfter (7 - n % 8) (recordByte k)) (sym e))
 
-  -- a block past the record
-  pub zeros-ended : L < 64 * i → tab 64 (λ (x : ℕ). 0) ≡ tab 64 endedByte
-  zeros-ended h = tab-congruent 64 _ _ (λ x l. sym (past x (omega arith)))
+    elsewhere : (x : ℕ) → (x ≡ end → ⊥) → endedBytes x ≡ recordByte x
+    elsewhere x d = simp (ne-eqb x end d)
 
-  -- a block before the last one
-  pub not-last : 64 * i + 64 < L + 9 → tab 64 endedByte ≡ tab 64 blockByte
-  not-last h =
-      tab-congruent 64 _ _ (λ x l. sym (simp (lt-ltb (64 * i + x + 8) size (omega (arith, blocks-of-bytes L)))))
+    module _ (size : length bytes ≡ packedLength n) where
+      past-end : (x : ℕ) → end < x → endedBytes x ≡ 0
+      past-end x l = elsewhere x (omega arith) ∙ List·getD-eq-default bytes 0 (omega arith)
 
-  module _ (h : L + 9 ≤ 64 * i + 64) (l : i < blocks (8 * L)) (short : L ≤ longest) where
-    whole : size ≡ 64 * i + 64
-    whole = omega (arith, blocks-of-bytes L)
+      pub end-laid : Laid endedBytes
+      end-laid =
+          record {
+            before-length = λ x l. by x l (ℕ-discrete x end) (decLt x end);
+            past = λ x l. past-end x (omega arith);
+          }
+        where
+          by : (x : ℕ) → 8 * (64 * i + x) + 8 ≤ 512 * blocks n - 64 → Dec (x ≡ end) → Dec (x < end)
+              → IsByte n bytes (64 * i + x) (endedBytes x)
+          by x l (yes e) d =
+              subst (IsByte n bytes (64 * i + x)) (sym (at-end x e))
+              (record-end n bytes (64 * i + x) (7 - n % 8) (omega arith) refl)
+          by x l (no e) (yes d) =
+              subst (IsByte n bytes (64 * i + x)) (sym (elsewhere x e)) (in-record n bytes (64 * i + x) (omega arith))
+          by x l (no e) (no d) =
+              subst (IsByte n bytes (64 * i + x)) (sym (past-end x (omega arith))) (past-record n bytes (64 * i + x) (omega arith) l)
 
-    -- byte m of the bit length, counted from the last
-    length-byte : (x m : ℕ) → x + m ≡ 63 → m < 8 → blockByte x ≡ 8 * L / 2 ^ (8 * m) % 256
-    length-byte x m e b =
-        let place : size - 1 - (64 * i + x) ≡ m = omega (arith, whole) in
-        simp (le-ltb (64 * i + x + 8) size (omega (arith, whole)), place)
+  pub end-cut : n < 512 * i + 512 → (t : List ℕ) → t ≡ tab 64 recordByte → (k y : ℕ) → k ≡ end
+      → y ≡ getD t k 0 / 2 ^ (8 - n % 8) * 2 ^ (8 - n % 8) + 2 ^ (7 - n % 8) → set t k y ≡ tab 64 endedBytes
+  end-cut l t e k y at cut =
+      let places : 8 - n % 8 ≡ suc (7 - n % 8) = omega arith in
+      let byte : getD t k 0 ≡ recordByte end =
+      ap₂ (λ (u : List ℕ) (x : ℕ). getD u x 0) e at ∙ getD-tab 64 recordByte end 0 (omega arith) in
+      let is : y ≡ endedByte = cut ∙ ap₂ (λ x m. x / 2 ^ m * 2 ^ m + 2 ^ (7 - n % 8)) byte places in
+      ap (λ (x : ℕ). set t x y) at
+      ∙ ap₂ (λ (u : List ℕ) (v : ℕ). set u end v) e is
+      ∙ set-tab 64 recordByte end endedByte (omega arith)
 
-    -- the last block
-    pub last : (t : List ℕ) → t ≡ tab 64 endedByte → set (set t 62 (L / 32)) 63 (L % 32 * 8) ≡ tab 64 blockByte
-    last t e =
-        ap (λ (u : List ℕ). set (set u 62 (L / 32)) 63 (L % 32 * 8)) e
-        ∙ ap (λ (u : List ℕ). set u 63 (L % 32 * 8)) (set-tab 64 endedByte 62 (L / 32) (omega arith))
-        ∙ set-tab 64 (wrote endedByte 62 (L / 32)) 63 (L % 32 * 8) (omega arith)
-        ∙ tab-congruent 64 _ _ (λ x b. by x b (ℕ-discrete x 63) (ℕ-discrete x 62) (decLt x 56))
-      where
-        by :
-            (x : ℕ)
-            → x < 64
-            → Dec (x ≡ 63)
-            → Dec (x ≡ 62)
-            → Dec (x < 56)
-            → wrote (wrote endedByte 62 (L / 32)) 63 (L % 32 * 8) x ≡ blockByte x
-        by x b (yes e) d f = simp (eq-eqb x 63 e) (omega (arith, length-byte x 0 (omega arith) (omega arith)))
-        by x b (no d) (yes e) f =
-            simp (ne-eqb x 63 d, eq-eqb x 62 e) (omega (arith, length-byte x 1 (omega arith) (omega arith)))
-        by x b (no d) (no e) (yes f) =
-            simp (ne-eqb x 63 d, ne-eqb x 62 e, lt-ltb (64 * i + x + 8) size (omega (arith, whole)))
-        by x b (no d) (no e) (no f) =
-            simp (ne-eqb x 63 d, ne-eqb x 62 e)
-            (past x (omega arith)
-            ∙ sym (length-byte x (63 - x) (omega arith) (omega arith) ∙ high-byte L (63 - x) short (omega arith)))
+  -- What is laid is a block of the message.
+  module _ (f : ℕ → ℕ) (laid : Laid f) where
+    -- one before the last
+    pub not-last : 512 * i + 512 < n + 65 → (x : ℕ) → x < 64 → IsByte n bytes (64 * i + x) (f x)
+    unfolding blocks
+    not-last h x l = laid .before-length x (omega arith)
+
+    abbrev pub withLength : ℕ → ℕ
+    withLength = wrote (wrote f 62 (n / 256)) 63 (n % 256)
+
+    pub length-set : (t : List ℕ) → t ≡ tab 64 f → set (set t 62 (n / 256)) 63 (n % 256) ≡ tab 64 withLength
+    length-set t e =
+        ap (λ (u : List ℕ). set (set u 62 (n / 256)) 63 (n % 256)) e
+        ∙ ap (λ (u : List ℕ). set u 63 (n % 256)) (set-tab 64 f 62 (n / 256) (omega arith))
+        ∙ set-tab 64 (wrote f 62 (n / 256)) 63 (n % 256) (omega arith)
+
+    -- the last one
+    module _ (h : n + 65 ≤ 512 * i + 512) (below : i < blocks n) (range : n ≤ mostBits) where
+      -- byte m of the length, counted from the last
+      at-length : (x m y : ℕ) → x + m ≡ 63 → m < 8 → y ≡ n / 2 ^ (8 * m) % 256 → IsByte n bytes (64 * i + x) y
+      unfolding blocks
+      at-length x m y e few is =
+          subst (IsByte n bytes (64 * i + x)) (sym is) (length-byte n bytes (64 * i + x) m (omega arith) few)
+
+      pub last : (x : ℕ) → x < 64 → IsByte n bytes (64 * i + x) (withLength x)
+      unfolding blocks
+      last x l = by (ℕ-discrete x 63) (ℕ-discrete x 62) (decLt x 56)
+        where
+          by : Dec (x ≡ 63) → Dec (x ≡ 62) → Dec (x < 56) → IsByte n bytes (64 * i + x) (withLength x)
+          by (yes e) d b = at-length x 0 (withLength x) (omega arith) (omega arith) (simp (eq-eqb x 63 e) (omega arith))
+          by (no d) (yes e) b =
+              at-length x 1 (withLength x) (omega arith) (omega arith) (simp (ne-eqb x 63 d, eq-eqb x 62 e) (omega arith))
+          by (no d) (no e) (yes b) =
+              let same : withLength x ≡ f x = simp (ne-eqb x 63 d, ne-eqb x 62 e) in
+              subst (IsByte n bytes (64 * i + x)) (sym same) (laid .before-length x (omega arith))
+          by (no d) (no e) (no b) =
+              at-length x (63 - x) (withLength x) (omega arith) (omega arith)
+              (simp (ne-eqb x 63 d, ne-eqb x 62 e)
+              (laid .past x (omega arith) ∙ sym (high-byte n (63 - x) range (omega arith))))

@@ -1,25 +1,22 @@
--- The message's bits, eight to a byte. Up to its last eight bytes the message is the record, the byte 128 and zeros; the
--- last eight bytes are the bit length. So 64 such bytes, or 64 bytes of the record, have the bits of a block.
-use mathlib.Core.Bool.{cond}
+-- The message's bits, eight to a byte. A byte inside the record is the record's. The byte in which the record ends has the record's
+-- bits, then the bit 1, then zeros; this may be a byte of which the record has no bit. Zeros follow, and the last eight bytes are the
+-- bit length. So 64 such bytes, or 64 bytes of the record, have the bits of a block.
 use mathlib.Core.List.{List}
-use mathlib.Core.Path.{_≡_, sym, ap, _∙_}
-use Prim.Native.Nat.{ℕ, zero, suc, _+_, _-_, _*_, _/_, _%_, _^_, _≤_, _<_}
-use native.Mathlib.Decide.{ℕ-discrete, decLt}
-use native.Mathlib.Nat.{zero-div}
+use mathlib.Core.Logic.{by-cases}
+use mathlib.Core.Path.{_≡_, sym, ap, subst, _∙_}
+use Prim.Native.Nat.{ℕ, suc, _+_, _-_, _*_, _/_, _%_, _^_, _≤_, _<_}
+use native.Mathlib.Decide.{decLt}
+use native.Mathlib.Nat.{mul-assoc, pow-suc, zero-div}
 use native.Mathlib.Omega.{arith}
-use borrow.Author.Tests.{eq-eqb, ne-eqb, lt-ltb, le-ltb}
-use lib.Dec.{eqb, ltb}
-use lib.ListN.{length, getD, List·getD-eq-default}
-use lib.Pow.{pow-add, shl-shr, shr-shr, field, mod-mod-pow}
-use Rattle.sm3.specs.Message.{blockBits, blocks, message}
+use lib.Arith.{digits-lt}
+use lib.ListN.{getD}
+use lib.Pow.{field, high, mod-mod-pow, pow-add, pow-lt, shl-shr, shr-lt, shr-shr}
 use Rattle.encoding.proofs.Bits.{bit-of-byte}
 use Rattle.encoding.proofs.Tab.{getD-tab}
 use Rattle.encoding.specs.Bits.{bitOfBytes}
 use Rattle.encoding.specs.Sequence.{tab}
-
-pub blocks-of-bytes : (size : ℕ) → blocks (8 * size) ≡ (size + 8) / 64 + 1
-unfolding blocks
-blocks-of-bytes size = omega arith
+use Rattle.sm3.proofs.message.MessageBits.{message-content, message-length, message-one, message-zero}
+use Rattle.sm3.specs.Message.{blockBits, blocks, message}
 
 -- a bit of a number's byte is a bit of the number
 byte-of-number : (n m s : ℕ) → s < 8 → n / 2 ^ m % 256 / 2 ^ s % 2 ≡ n / 2 ^ (m + s) % 2
@@ -32,124 +29,107 @@ byte-of-number n m s h =
     ∙ mod-mod-pow (n / 2 ^ m / 2 ^ s) (7 - s) 1
     ∙ ap (λ (t : ℕ). t % 2) (shr-shr n m s)
 
--- the byte 128 has the bit 1 first, then zeros
-rest-of-128 : (j : ℕ) → 0 < j → j < 8 → 128 / 2 ^ (7 - j) % 2 ≡ 0
-rest-of-128 zero l h = absurd (omega arith)
-rest-of-128 (suc i) l h =
-    let all : suc i + (7 - suc i) ≡ 7 = omega arith in
-    let product : 128 ≡ 2 ^ suc i * 2 ^ (7 - suc i) = ap (λ (t : ℕ). 2 ^ t) (sym all) ∙ pow-add 2 (suc i) (7 - suc i) in
-    let quotient : 128 / 2 ^ (7 - suc i) ≡ 2 ^ suc i = ap (λ (t : ℕ). t / 2 ^ (7 - suc i)) product ∙ shl-shr (2 ^ suc i) (7 - suc i) in
-    omega arith
+-- the byte y with its first bits, then the bit 1 and m zeros
+abbrev pub cutAfter : ℕ → ℕ → ℕ
+cutAfter m y = y / 2 ^ suc m * 2 ^ suc m + 2 ^ m
 
-module _ (bytes : List ℕ) where
-  -- how many bytes the message has
-  abbrev size : ℕ
-  size = 64 * blocks (8 * length bytes)
+-- .. is a byte, where m zeros, the bit 1 and u bits before it are eight
+pub cut-lt : (u m y : ℕ) → u + suc m ≡ 8 → y < 256 → cutAfter m y < 256
+cut-lt u m y e l =
+    let whole : 2 ^ u * 2 ^ suc m ≡ 256 = sym (pow-add 2 u (suc m)) ∙ ap (λ t. 2 ^ t) e in
+    let first : y / 2 ^ suc m < 2 ^ u = shr-lt u (suc m) (subst (λ t. y < 2 ^ t) (sym e) l) in
+    subst (λ t. cutAfter m y < t) whole (digits-lt first (pow-lt (omega arith)))
 
-  -- the record, the byte 128 and zeros
-  abbrev pub ended : ℕ → ℕ
-  ended x = cond (eqb x (length bytes)) 128 (getD bytes x 0)
+module _ (m y : ℕ) where
+  cut-as-product : cutAfter m y ≡ (y / 2 ^ suc m * 2 + 1) * 2 ^ m
+  cut-as-product =
+      let a : ℕ = y / 2 ^ suc m in
+      let b : ℕ = 2 ^ m in
+      let power : a * 2 ^ suc m ≡ a * b * 2 = ap (λ t. a * t) (pow-suc 2 m) ∙ sym (mul-assoc a b 2) in
+      omega arith
 
-  -- byte x of the message
-  abbrev pub messageByte : ℕ → ℕ
-  messageByte x = cond (ltb (x + 8) size) (ended x) (8 * length bytes / 2 ^ (8 * (size - 1 - x)) % 256)
+  -- the bits before the bit 1, that bit, and the zeros
+  cut-kept : (d : ℕ) → cutAfter m y / 2 ^ (suc m + d) % 2 ≡ y / 2 ^ (suc m + d) % 2
+  cut-kept d =
+      ap (λ t. t % 2)
+      (sym (shr-shr (cutAfter m y) (suc m) d)
+      ∙ ap (λ t. t / 2 ^ d) (high (y / 2 ^ suc m) (suc m) (pow-lt (omega arith)))
+      ∙ shr-shr y (suc m) d)
 
-  -- bit j of byte x of the message
-  abbrev messageBit : ℕ → ℕ → ℕ
-  messageBit x j = message (8 * length bytes) (bitOfBytes bytes) (8 * x + j)
+  cut-one : cutAfter m y / 2 ^ m % 2 ≡ 1
+  cut-one = ap (λ t. t / 2 ^ m % 2) cut-as-product ∙ ap (λ t. t % 2) (shl-shr (y / 2 ^ suc m * 2 + 1) m) ∙ omega arith
 
-  room : length bytes + 8 < size
-  room = omega (arith, blocks-of-bytes (length bytes))
+cut-zero : (s d y : ℕ) → cutAfter (suc d + s) y / 2 ^ s % 2 ≡ 0
+cut-zero s d y =
+    let a : ℕ = y / 2 ^ suc (suc d + s) * 2 + 1 in
+    let product : a * 2 ^ (suc d + s) ≡ a * 2 ^ suc d * 2 ^ s =
+    ap (λ t. a * t) (pow-add 2 (suc d) s) ∙ sym (mul-assoc a (2 ^ suc d) (2 ^ s)) in
+    let even : a * 2 ^ suc d ≡ a * 2 ^ d * 2 = ap (λ t. a * t) (pow-suc 2 d) ∙ sym (mul-assoc a (2 ^ d) 2) in
+    ap (λ t. t / 2 ^ s % 2) (cut-as-product (suc d + s) y ∙ product)
+    ∙ ap (λ t. t % 2) (shl-shr (a * 2 ^ suc d) s)
+    ∙ omega (arith, even)
 
-  module _ (x j : ℕ) (h : j < 8) where
-    of-record : x < length bytes → ended x / 2 ^ (7 - j) % 2 ≡ messageBit x j
-    unfolding message
-    of-record r =
-        simp
-        (ne-eqb x (length bytes) (omega arith), lt-ltb (8 * x + j) (8 * length bytes) (omega arith))
-        (sym (bit-of-byte bytes x j h))
+module _ (n : ℕ) (bytes : List ℕ) where
+  -- y is byte x of the message
+  abbrev pub IsByte : ℕ → ℕ → Type 0
+  IsByte x y = (j : ℕ) → j < 8 → y / 2 ^ (7 - j) % 2 ≡ message n (bitOfBytes bytes) (8 * x + j)
 
-    of-one : x ≡ length bytes → j ≡ 0 → ended x / 2 ^ (7 - j) % 2 ≡ messageBit x j
-    unfolding message
-    of-one e z =
-        simp (
-          eq-eqb x (length bytes) e,
-          le-ltb (8 * x + j) (8 * length bytes) (omega arith),
-          eq-eqb (8 * x + j) (8 * length bytes) (omega arith),
-        )
-        (ap (λ (t : ℕ). 128 / 2 ^ (7 - t) % 2) z)
+  pub in-record : (x : ℕ) → 8 * x + 8 ≤ n → IsByte x (getD bytes x 0)
+  in-record x h j l = sym (message-content n (bitOfBytes bytes) (8 * x + j) (omega arith) ∙ bit-of-byte bytes x j l)
 
-    of-zeros : 8 * length bytes < 8 * x + j → x + 8 < size → 0 ≡ messageBit x j
-    unfolding message
-    of-zeros r s =
-        simp (
-          le-ltb (8 * x + j) (8 * length bytes) (omega arith),
-          ne-eqb (8 * x + j) (8 * length bytes) (omega arith),
-          lt-ltb (8 * x + j) (512 * blocks (8 * length bytes) - 64) (omega arith),
-        )
+  pub past-record : (x : ℕ) → n < 8 * x → 8 * x + 8 ≤ 512 * blocks n - 64 → IsByte x 0
+  past-record x h e j l =
+      ap (λ t. t % 2) (zero-div (2 ^ (7 - j))) ∙ sym (message-zero n (bitOfBytes bytes) (8 * x + j) (omega arith) (omega arith))
 
-    of-length :
-        size ≤ x + 8
-        → x < size
-        → 8 * length bytes / 2 ^ (8 * (size - 1 - x)) % 256 / 2 ^ (7 - j) % 2 ≡ messageBit x j
-    unfolding message
-    of-length s l =
-        let place : 8 * (size - 1 - x) + (7 - j) ≡ 512 * blocks (8 * length bytes) - 1 - (8 * x + j) = omega arith in
-        let past : length bytes < x = omega (arith, room) in
-        byte-of-number (8 * length bytes) (8 * (size - 1 - x)) (7 - j) (omega arith)
-        ∙ ap (λ (t : ℕ). 8 * length bytes / 2 ^ t % 2) place
-        ∙ sym
-        (simp (
-          le-ltb (8 * x + j) (8 * length bytes) (omega arith),
-          ne-eqb (8 * x + j) (8 * length bytes) (omega arith),
-          le-ltb (8 * x + j) (512 * blocks (8 * length bytes) - 64) (omega arith),
-        ))
+  -- the byte in which the record ends
+  pub record-end : (x m : ℕ) → x ≡ n / 8 → m ≡ 7 - n % 8 → IsByte x (cutAfter m (getD bytes x 0))
+  unfolding blocks
+  record-end x m at zeros j l =
+      by-cases (decLt j (n % 8))
+      (λ before.
+      let place : 7 - j ≡ suc m + (n % 8 - 1 - j) = omega arith in
+      ap (λ s. cutAfter m y / 2 ^ s % 2) place
+      ∙ cut-kept m y (n % 8 - 1 - j)
+      ∙ ap (λ s. y / 2 ^ s % 2) (sym place)
+      ∙ sym (message-content n (bitOfBytes bytes) (8 * x + j) (omega arith) ∙ bit-of-byte bytes x j l))
+      (λ from.
+      by-cases (decLt (n % 8) j)
+      (λ after.
+      let place : m ≡ suc (j - n % 8 - 1) + (7 - j) = omega arith in
+      ap (λ s. cutAfter s y / 2 ^ (7 - j) % 2) place
+      ∙ cut-zero (7 - j) (j - n % 8 - 1) y
+      ∙ sym (message-zero n (bitOfBytes bytes) (8 * x + j) (omega arith) (omega arith)))
+      (λ here.
+      let place : 7 - j ≡ m = omega arith in
+      ap (λ s. cutAfter m y / 2 ^ s % 2) place ∙ cut-one m y ∙ sym (message-one n (bitOfBytes bytes) (8 * x + j) (omega arith))))
+    where
+      y : ℕ
+      y = getD bytes x 0
 
-    of-ended : x + 8 < size → ended x / 2 ^ (7 - j) % 2 ≡ messageBit x j
-    of-ended s = by (decLt x (length bytes)) (ℕ-discrete x (length bytes)) (ℕ-discrete j 0)
-      where
-        by : Dec (x < length bytes) → Dec (x ≡ length bytes) → Dec (j ≡ 0) → ended x / 2 ^ (7 - j) % 2 ≡ messageBit x j
-        by (yes r) d e = of-record r
-        by (no r) (yes d) (yes e) = of-one d e
-        by (no r) (yes d) (no e) =
-            simp (eq-eqb x (length bytes) d) (rest-of-128 j (omega arith) h ∙ of-zeros (omega arith) s)
-        by (no r) (no d) e =
-            simp (ne-eqb x (length bytes) d, List·getD-eq-default bytes 0 {n = x} (omega arith), zero-div)
-            (of-zeros (omega arith) s)
-
-    byte-bit : x < size → messageByte x / 2 ^ (7 - j) % 2 ≡ messageBit x j
-    byte-bit l = by (decLt (x + 8) size)
-      where
-        by : Dec (x + 8 < size) → messageByte x / 2 ^ (7 - j) % 2 ≡ messageBit x j
-        by (yes s) = simp (lt-ltb (x + 8) size s) (of-ended s)
-        by (no s) = simp (le-ltb (x + 8) size (omega arith)) (of-length (omega arith) l)
+  -- byte m of the bit length, counted from the last
+  pub length-byte : (x m : ℕ) → x + m + 1 ≡ 64 * blocks n → m < 8 → IsByte x (n / 2 ^ (8 * m) % 256)
+  unfolding blocks
+  length-byte x m e few j l =
+      let place : 8 * m + (7 - j) ≡ 512 * blocks n - 1 - (8 * x + j) = omega arith in
+      byte-of-number n (8 * m) (7 - j) (omega arith)
+      ∙ ap (λ t. n / 2 ^ t % 2) place
+      ∙ sym (message-length n (bitOfBytes bytes) (8 * x + j) (omega arith))
 
   -- a list of 64 bytes of the message has the bits of a block
-  pub block-bits :
-      (i : ℕ)
-      → i < blocks (8 * length bytes)
-      → (r : List ℕ)
-      → r ≡ tab 64 (λ (x : ℕ). messageByte (64 * i + x))
-      → (k : ℕ)
-      → k < 512
-      → bitOfBytes r k ≡ blockBits (message (8 * length bytes) (bitOfBytes bytes)) i k
+  pub block-bits : (i : ℕ) (f : ℕ → ℕ) → ((x : ℕ) → x < 64 → IsByte (64 * i + x) (f x)) → (r : List ℕ) → r ≡ tab 64 f
+      → (k : ℕ) → k < 512 → bitOfBytes r k ≡ blockBits (message n (bitOfBytes bytes)) i k
   unfolding bitOfBytes blockBits
-  block-bits i l r e k h =
+  block-bits i f are r e k h =
       let place : 8 * (64 * i + k / 8) + k % 8 ≡ 512 * i + k = omega arith in
       ap (λ (t : List ℕ). getD t (k / 8) 0 / 2 ^ (7 - k % 8) % 2) e
-      ∙ ap (λ (t : ℕ). t / 2 ^ (7 - k % 8) % 2)
-      (getD-tab 64 (λ (x : ℕ). messageByte (64 * i + x)) (k / 8) 0 (omega arith))
-      ∙ byte-bit (64 * i + k / 8) (k % 8) (omega arith) (omega arith)
-      ∙ ap (message (8 * length bytes) (bitOfBytes bytes)) place
+      ∙ ap (λ (t : ℕ). t / 2 ^ (7 - k % 8) % 2) (getD-tab 64 f (k / 8) 0 (omega arith))
+      ∙ are (k / 8) (omega arith) (k % 8) (omega arith)
+      ∙ ap (message n (bitOfBytes bytes)) place
 
   -- a block that lies within the record
-  pub record-bits :
-      (i : ℕ)
-      → 64 * i + 64 ≤ length bytes
-      → (k : ℕ)
-      → k < 512
-      → bitOfBytes bytes (8 * (64 * i) + k) ≡ blockBits (message (8 * length bytes) (bitOfBytes bytes)) i k
-  unfolding blockBits message
+  pub record-bits : (i : ℕ) → 512 * i + 512 ≤ n → (k : ℕ) → k < 512
+      → bitOfBytes bytes (8 * (64 * i) + k) ≡ blockBits (message n (bitOfBytes bytes)) i k
+  unfolding blockBits
   record-bits i l k h =
       let place : 8 * (64 * i) + k ≡ 512 * i + k = omega arith in
-      simp (lt-ltb (512 * i + k) (8 * length bytes) (omega arith)) (ap (bitOfBytes bytes) place)
+      ap (bitOfBytes bytes) place ∙ sym (message-content n (bitOfBytes bytes) (512 * i + k) (omega arith))

@@ -1,23 +1,47 @@
--- The tests are the refusals in their order; past them the buffer has the digest's bytes at its front.
+-- What is asked of the record stands before what is asked of the buffer; past both the buffer has the digest's bytes at its front.
 use mathlib.Core.List.{_++_}
-use mathlib.Core.Path.{refl, ap, _∙_}
+use mathlib.Core.Path.{_∙_, ap, refl, sym}
 use borrow.Author.Needs.{needs}
-use borrow.Author.Tests.{lt-ltb, le-ltb}
+use borrow.Author.Tests.{le-ltb, lt-ltb}
+use denote.Ref.{now}
 use lib.ListN.{drop}
+use Rattle.sm3.proofs.handed.Asked.{handed-done, handed-tests}
 use Rattle.sm3.specs.Message.{bytesOf, digestBytes}
 use Rattle.sm3.specs.declared.state.State.{State}
 use Rattle.sm3.proofs.digest.digest.Statement.{statement}
 use Rattle.sm3.proofs.digest.digest.Tie as tie
 
+handed-requires : tie.Need-handed-requires
+handed-requires c κs = search needs
+
+enum-known-answer : tie.Need-enum-known-answer
+enum-known-answer c = search needs
+
 returns : tie.Need-returns
-returns c = (simp (lt-ltb _ _ (c .if1 .taken)), refl)
+returns c =
+    let asked = c .before .before .before in
+    let a = asked .before .before .before .args in
+    (sym (handed-tests (a .bits) (now (a .bytes)) .stands _ _ (sym (asked .handed .ensures) ∙ c .before .answer .given .1)), refl)
+
+enum-told : tie.Need-enum-told
+enum-told c = search needs
 
 returns-2 : tie.Need-returns-2
 returns-2 c =
-    (simp (le-ltb _ _ (c .before .if1 .left), lt-ltb _ _ (c .if2 .taken)), refl)
+    let asked = c .before .before .before in
+    let a = asked .before .before .before .args in (
+      sym
+          (handed-tests (a .bits) (now (a .bytes)) .passed _ (sym (asked .handed .ensures) ∙ c .before .enum-told .given .1)
+          ∙ simp (lt-ltb _ _ (c .if1 .taken))),
+      refl,
+    )
 
 hash-requires : tie.Need-hash-requires
-hash-requires c κs = search needs
+hash-requires c κs =
+    let asked = c .before .before .before in
+    let a = asked .before .before .before .args in
+    let passed = handed-done (a .bits) (now (a .bytes)) .0 (sym (asked .handed .ensures) ∙ c .before .enum-told .given .1) in
+    (passed .0, passed .1 .0)
 
 put-digest-requires : tie.Need-put-digest-requires
 put-digest-requires c κs = search needs
@@ -29,13 +53,26 @@ returns-3 : tie.Need-returns-3
 unfolding digestBytes
 returns-3 c =
     let hashed = c .before .before .before .before in
-    let tests = hashed .before in
-    let out = tests .before .before .before .before .args .out .now in (
-      simp (le-ltb _ _ (tests .before .if1 .left), le-ltb _ _ (tests .if2 .left)),
+    let room = hashed .before in
+    let asked = room .before .before .before in
+    let a = asked .before .before .before .args in (
+      sym
+          (handed-tests (a .bits) (now (a .bytes)) .passed _ (sym (asked .handed .ensures) ∙ room .before .enum-told .given .1)
+          ∙ simp (le-ltb _ _ (room .if1 .left))),
       c .before .before .put-digest .ensures
-          ∙ ap (λ (s : State). bytesOf s ++ drop 32 out) (hashed .hash .ensures),
+          ∙ ap (λ (s : State). bytesOf s ++ drop 32 (now (a .out))) (hashed .hash .ensures),
     )
 
 pub digest-spec : {M : Type 1} → statement M
 digest-spec =
-    tie.close (tie.spec returns returns-2 hash-requires put-digest-requires same-length returns-3)
+    tie.close
+    (tie.spec
+    handed-requires
+    enum-known-answer
+    returns
+    enum-told
+    returns-2
+    hash-requires
+    put-digest-requires
+    same-length
+    returns-3)

@@ -1,10 +1,9 @@
 -- Before block i the state is what the message's blocks so far have come to.
 use mathlib.Core.Path.{_≡_, sym, ap, _∙_}
-use Prim.Native.Nat.{_-_, _*_, _≤_}
+use Prim.Native.Nat.{_-_, _≤_}
 use native.Mathlib.Numerals.{add-one}
 use native.Mathlib.Omega.{arith}
 use borrow.Author.Needs.{needs}
-use lib.ListN.{length}
 use Rattle.sm3.specs.Message.{blockBits, blocks, chainingValue, digestOf, message}
 use Rattle.sm3.specs.Sm3.{block}
 use Rattle.sm3.proofs.message.hash.Statement.{statement}
@@ -12,14 +11,11 @@ use Rattle.sm3.proofs.message.hash.Tie as tie
 use Rattle.encoding.specs.Bits.{bitOfBytes}
 
 abbrev Inv-loop : tie.InvT-loop
-Inv-loop bytes n t v₀ i₀ v i =
-    (i ≤ n) × (v ≡ chainingValue (message (8 * length bytes) (bitOfBytes bytes)) i)
+Inv-loop bits bytes n t v₀ i₀ v i =
+    (i ≤ n) × (v ≡ chainingValue (message bits (bitOfBytes bytes)) i)
 
 abbrev μ-loop : tie.MeasureT-loop
-μ-loop bytes n t v₀ i₀ v i = n - i
-
-mul-block-count : tie.Need-mul-block-count Inv-loop μ-loop
-mul-block-count c = search needs
+μ-loop bits bytes n t v₀ i₀ v i = n - i
 
 block-count-requires : tie.Need-block-count-requires Inv-loop μ-loop
 block-count-requires c κs = search needs
@@ -48,8 +44,8 @@ loop-again : tie.Need-loop-again Inv-loop μ-loop
 unfolding chainingValue
 loop-again c =
     let l = c .before .before .before .loop in
-    let bytes = c .before .before .before .before .before .before .before .before .args .bytes .now in
-    let m = message (8 * length bytes) (bitOfBytes bytes) in (
+    let a = c .before .before .before .before .before .before .before .before .args in
+    let m = message (a .bits) (bitOfBytes (a .bytes .now)) in (
       omega arith,
       c .next-state .ensures
           ∙ ap (block (blockBits m (l .i))) (l .inv .1)
@@ -60,9 +56,9 @@ returns : tie.Need-returns Inv-loop μ-loop
 unfolding digestOf blocks
 returns c =
     let l = c .before .loop in
-    let bytes = c .before .before .before .before .before .before .args .bytes .now in
-    let all : l .i ≡ blocks (8 * length bytes) = omega arith in
-    l .inv .1 ∙ ap (chainingValue (message (8 * length bytes) (bitOfBytes bytes))) all
+    let a = c .before .before .before .before .before .before .args in
+    let all : l .i ≡ blocks (a .bits) = omega arith in
+    l .inv .1 ∙ ap (chainingValue (message (a .bits) (bitOfBytes (a .bytes .now)))) all
 
 pub hash-spec : {M : Type 1} → statement M
 hash-spec =
@@ -70,7 +66,6 @@ hash-spec =
     (tie.spec
     Inv-loop
     μ-loop
-    mul-block-count
     block-count-requires
     rotated-constants-requires
     start-state-requires

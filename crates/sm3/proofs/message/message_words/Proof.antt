@@ -11,13 +11,16 @@ use Rattle.sm3.proofs.message.message_words.Statement.{statement}
 use Rattle.sm3.proofs.message.message_words.Tie as tie
 use Rattle.encoding.specs.Bits.{bitOfBytes}
 
-mul-at : tie.Need-mul-at
+mul-if1 : tie.Need-mul-if1
 unfolding blocks
-mul-at c = omega arith
+mul-if1 c = omega arith
 
 add-if1 : tie.Need-add-if1
 unfolding blocks
 add-if1 c = omega arith
+
+mul-block-words : tie.Need-mul-block-words
+mul-block-words c = search needs
 
 block-words-requires : tie.Need-block-words-requires
 block-words-requires c κs = search needs
@@ -27,7 +30,7 @@ returns c =
     let a = c .before .before .before .args in
     let bytes = a .bytes .now in
     let words = c .block-words .ensures in
-    (words .0, words .1 ∙ expansion-congruent _ _ (record-bits bytes (a .i) (omega arith)) 16)
+    (words .0, words .1 ∙ expansion-congruent _ _ (record-bits (a .bits) bytes (a .i) (omega arith)) 16)
 
 padded-requires : tie.Need-padded-requires
 padded-requires c κs = search needs
@@ -50,8 +53,9 @@ pub message-words-spec : {M : Type 1} → statement M
 message-words-spec =
     tie.close
     (tie.spec
-    mul-at
+    mul-if1
     add-if1
+    mul-block-words
     block-words-requires
     returns
     padded-requires

@@ -1,20 +1,23 @@
 -- There are three kinds of block that the record does not fill: one past the record with the length, one with the record's
 -- end and the length, one with the record's end alone. Each is the message's bytes, and these have the message's bits.
-use mathlib.Core.Path.{_∙_}
-use Prim.Native.Nat.{ℕ, _-_, _*_}
+use mathlib.Core.List.{List}
+use mathlib.Core.Path.{_≡_, _∙_, ap, ap₂, refl, sym}
+use Prim.Native.Nat.{ℕ, suc, _+_, _-_, _*_, _/_, _%_, _^_}
 use native.Mathlib.Omega.{arith}
 use borrow.Author.Needs.{needs}
-use lib.ListN.{length, set}
+use denote.Ref.{now}
+use lib.ListN.{getD, set}
+use Rattle.encoding.proofs.Tab.{getD-tab}
+use Rattle.encoding.specs.Sequence.{tab}
+use Rattle.sm3.proofs.message.PaddedBlock.{end-cut, end-laid, endedBytes, last, length-set, not-last, withLength, zeros-laid}
+use Rattle.sm3.proofs.message.Padding.{block-bits, cutAfter}
 use Rattle.sm3.specs.Message.{blocks}
-use Rattle.sm3.proofs.message.PaddedBlock.{tail-ended, zeros-ended, not-last, last}
-use Rattle.sm3.proofs.message.Padding.{block-bits}
 use Rattle.sm3.proofs.message.padded.Statement.{statement}
 use Rattle.sm3.proofs.message.padded.Tie as tie
-use Rattle.encoding.specs.Sequence.{tab}
 
-mul-at : tie.Need-mul-at
+mul-from : tie.Need-mul-from
 unfolding blocks
-mul-at c = omega arith
+mul-from c = omega arith
 
 with-length-requires : tie.Need-with-length-requires
 with-length-requires c κs = search needs
@@ -23,13 +26,26 @@ returns : tie.Need-returns
 unfolding tab
 returns c =
     let a = c .before .before .before .args in
-    let bytes = a .bytes .now in
-    block-bits bytes (a .i) (omega arith) (c .with-length .result)
-    (c .with-length .ensures
-    ∙ last bytes (a .i) (omega arith) (omega arith) (omega arith) (tab 64 (λ (x : ℕ). 0)) (zeros-ended bytes (a .i) (omega arith)))
+    let bytes = now (a .bytes) in
+    let laid = zeros-laid (a .bits) bytes (a .i) (omega arith) in
+    block-bits (a .bits) bytes (a .i) (withLength (a .bits) bytes (a .i) (λ x. 0) laid)
+    (last (a .bits) bytes (a .i) (λ x. 0) laid (omega arith) (omega arith) (omega arith)) (c .with-length .result)
+    (c .with-length .ensures ∙ length-set (a .bits) bytes (a .i) (λ x. 0) laid (tab 64 (λ (x : ℕ). 0)) refl)
+
+mul-tail : tie.Need-mul-tail
+mul-tail c = search needs
 
 tail-requires : tie.Need-tail-requires
 tail-requires c κs = search needs
+
+end-place-requires : tie.Need-end-place-requires
+end-place-requires c κs = search needs
+
+array-read-cut-byte : tie.Need-array-read-cut-byte
+array-read-cut-byte c = search needs
+
+cut-byte-requires : tie.Need-cut-byte-requires
+cut-byte-requires c κs = search needs
 
 array-write-b : tie.Need-array-write-b
 array-write-b c = search needs
@@ -45,30 +61,44 @@ with-length-requires-2 c κs = search needs
 
 returns-2 : tie.Need-returns-2
 returns-2 c =
-    let a = c .before .before .before .before .before .args in
-    let bytes = a .bytes .now in
-    let t = c .before .before .tail in
-    block-bits bytes (a .i) (omega arith) (c .with-length2 .result)
+    let a = c .before .before .before .before .before .before .before .args in
+    let n = a .bits in
+    let bytes = now (a .bytes) in
+    let t = c .before .before .before .before .tail in
+    let end = c .before .before .before .end-place in
+    let cut = c .before .before .cut-byte in
+    let laid = end-laid n bytes (a .i) (omega arith) (omega arith) in
+    block-bits n bytes (a .i) (withLength n bytes (a .i) (endedBytes n bytes (a .i)) laid)
+    (last n bytes (a .i) (endedBytes n bytes (a .i)) laid (omega arith) (omega arith) (omega arith)) (c .with-length2 .result)
     (c .with-length2 .ensures
-    ∙ last bytes (a .i) (omega arith) (omega arith) (omega arith) (set (t .result) (length bytes - 64 * a .i) 128)
-    (tail-ended bytes (a .i) (omega arith) (omega arith) (t .result) (t .ensures)))
+    ∙ length-set n bytes (a .i) (endedBytes n bytes (a .i)) laid (set (t .result) (end .result) (cut .result))
+    (end-cut n bytes (a .i) (omega arith) (t .result) (t .ensures) (end .result) (cut .result) (end .ensures) (cut .ensures)))
 
 returns-3 : tie.Need-returns-3
 returns-3 c =
-    let a = c .before .before .before .before .args in
-    let bytes = a .bytes .now in
-    let t = c .before .tail in
-    block-bits bytes (a .i) (omega arith) (set (t .result) (length bytes - 64 * a .i) 128)
-    (tail-ended bytes (a .i) (omega arith) (omega arith) (t .result) (t .ensures) ∙ not-last bytes (a .i) (omega arith))
+    let a = c .before .before .before .before .before .before .args in
+    let n = a .bits in
+    let bytes = now (a .bytes) in
+    let t = c .before .before .before .tail in
+    let end = c .before .before .end-place in
+    let cut = c .before .cut-byte in
+    let laid = end-laid n bytes (a .i) (omega arith) (omega arith) in
+    block-bits n bytes (a .i) (endedBytes n bytes (a .i))
+    (not-last n bytes (a .i) (endedBytes n bytes (a .i)) laid (omega arith)) (set (t .result) (end .result) (cut .result))
+    (end-cut n bytes (a .i) (omega arith) (t .result) (t .ensures) (end .result) (cut .result) (end .ensures) (cut .ensures))
 
 pub padded-spec : {M : Type 1} → statement M
 padded-spec =
     tie.close
     (tie.spec
-    mul-at
+    mul-from
     with-length-requires
     returns
+    mul-tail
     tail-requires
+    end-place-requires
+    array-read-cut-byte
+    cut-byte-requires
     array-write-b
     add-if2
     add-if2-2
