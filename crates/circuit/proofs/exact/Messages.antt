@@ -5,7 +5,7 @@ use mathlib.Core.Logic.{_↔_}
 use mathlib.Core.Path.{_≡_, subst, sym}
 use Prim.Native.Nat.{ℕ, _+_, _-_, _*_, _/_, _%_, _<_, _≤_}
 use native.Mathlib.Omega.{arith}
-use borrow.Author.Tests.{eqb-false, eqb-true, le-ltb, lt-ltb, ltb-false, ltb-true}
+use borrow.Author.Tests.{eqb-false, eqb-true, ltb-false, ltb-true}
 use lib.Dec.{eqb, lit<, ltb}
 use Rattle.block.proofs.exact.States.{CarriesState, carries-eight}
 use Rattle.block.specs.BlockWires.{stateWires}
@@ -24,19 +24,10 @@ use Rattle.forms.proofs.shape.All.{of-cond}
 use Rattle.forms.specs.Rows.{Satisfied, rowOf}
 use Rattle.forms.specs.declared.form.Form.the-variants.{Fixed}
 use Rattle.sm3.proofs.Bounds.{Words, message-lt}
+use Rattle.sm3.proofs.message.MessageBits.{message-content, message-padding}
 use Rattle.sm3.specs.Message.{blockBits, message}
 use Rattle.sm3.specs.Sm3.{block, start}
 use Rattle.sm3.specs.declared.state.State.{State}
-
--- The content and the padding of a message.
-
-pub message-content : (n : ℕ) (r : ℕ → ℕ) (k : ℕ) → k < n → message n r k ≡ r k
-unfolding message
-message-content n r k h = rw (lt-ltb k n h)
-
-pub message-padding : (n : ℕ) (r t : ℕ → ℕ) (k : ℕ) → n ≤ k → message n r k ≡ message n t k
-unfolding message
-message-padding n r t k h = rw (le-ltb k n h)
 
 module _ (a : ℕ → ℕ) (J : Judged a) where
   -- what block i of the message m begins with

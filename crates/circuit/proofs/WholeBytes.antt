@@ -1,0 +1,118 @@
+-- Whole bytes. The counts are those of the blocks. The rows of a block's bits ask the message alone, which is the padded bytes; all
+-- other rows of a record of n bits are made of the count of its blocks.
+use mathlib.Core.Bool.{Bool, cond, false, true}
+use mathlib.Core.List.{List}
+use mathlib.Core.Logic.{by-cases}
+use mathlib.Core.Path.{_≡_, refl, sym, ap, ap₂, _∙_}
+use Prim.Native.Nat.{ℕ, _+_, _-_, _*_, _/_, _%_, _<_}
+use native.Mathlib.Decide.{decLt}
+use native.Mathlib.Nat.{div-add-mod, sub-zero}
+use native.Mathlib.Omega.{arith}
+use borrow.Author.Tests.{ltb-false}
+use lib.Dec.{ltb}
+use lib.ListN.{length}
+use Rattle.block.proofs.exact.Block.{blockForms}
+use Rattle.block.specs.Steps.{blockRows}
+use Rattle.block.specs.declared.step.Step.the-variants.{Digest, Message, Start}
+use Rattle.circuit.proofs.exact.Frame.{block-row}
+use Rattle.circuit.proofs.place.FormLayout.{form-at}
+use Rattle.circuit.specs.Circuit.{begins, digestForm, formAt, formOf, messageForm, rowAt, startForm}
+use Rattle.circuit.specs.Circuits.{messageOf}
+use Rattle.circuit.specs.Places.{frameLayout, rowCount}
+use Rattle.circuit.specs.WholeBytes.{WholeBytes, rowsOfBytes, wiresOfBytes}
+use Rattle.circuit.specs.Wires.{blockFirst, wireCount}
+use Rattle.encoding.proofs.Sequence.{beside-first, beside-then}
+use Rattle.encoding.specs.Bits.{bitOfBytes}
+use Rattle.encoding.specs.Sequence.{beside, grid}
+use Rattle.forms.specs.Rows.{rowOf}
+use Rattle.forms.specs.declared.form.Form.the-variants.{Bit, Fixed}
+use Rattle.forms.specs.declared.form.Form.{Form}
+use Rattle.sm3.proofs.WholeBytes.{blocks-of-bytes, padded-message}
+use Rattle.sm3.proofs.message.MessageBits.{message-padding}
+use Rattle.sm3.specs.Message.{blocks, message}
+use Rattle.sm3.specs.WholeBytes.{blocksOfBytes, paddedBytes}
+
+wires-of-bytes : (L : ℕ) → wireCount (8 * L) ≡ wiresOfBytes L
+unfolding wireCount
+wires-of-bytes L = omega (arith, blocks-of-bytes L)
+
+rows-of-bytes : (L : ℕ) → rowCount (8 * L) ≡ rowsOfBytes L
+unfolding rowCount
+rows-of-bytes L = omega (arith, blocks-of-bytes L)
+
+-- a choice whose second part matters only where the test fails
+other-branch : {A : Type 0} (t : Bool) (x y z : A) → (t ≡ false → y ≡ z) → cond t x y ≡ cond t x z
+other-branch true x y z e = refl
+other-branch false x y z e = e refl
+
+-- the row of bit b of block i
+bit-row : (n i b : ℕ) → i < blocks n → b < 512
+    → formAt n (256 + (32320 * i + b))
+    ≡ cond (ltb (512 * i + b) n) (Bit (record { 0 = blockFirst i + b })) (Fixed (record { 0 = blockFirst i + b }) (message n (λ k. 0) (512 * i + b)))
+unfolding grid formOf messageForm
+bit-row n i b l h =
+    let bit : 32 * (b / 32) + b % 32 ≡ b = div-add-mod b 32 in
+    block-row n i b l (omega arith)
+    ∙ beside-first 512 _ _ b h
+    ∙ ap₂ (λ j k. messageForm n (messageOf n i) (512 * j + k) (blockFirst i + k)) (sub-zero i) bit
+
+bit-rows : (r : List ℕ) (i b : ℕ) → i < blocksOfBytes (length r) → b < 512
+    → formAt (8 * length r) (256 + (32320 * i + b))
+    ≡ cond (ltb (512 * i + b) (8 * length r)) (Bit (record { 0 = 513 + 22528 * i + b }))
+    (Fixed (record { 0 = 513 + 22528 * i + b }) (bitOfBytes (paddedBytes r) (512 * i + b)))
+bit-rows r i b l h =
+    let n : ℕ = 8 * length r in
+    let k : ℕ = 512 * i + b in
+    bit-row n i b (omega (arith, blocks-of-bytes (length r))) h
+    ∙ other-branch (ltb k n) _ _ _
+    (λ past.
+    ap (Fixed (record { 0 = 513 + 22528 * i + b }))
+    (message-padding n (λ k. 0) (bitOfBytes r) k (ltb-false k n past) ∙ ap (λ m. m k) (padded-message r)))
+
+-- Rows that are made of the count of blocks.
+module _ (n m k : ℕ) (same : blocks n ≡ blocks m) (below : k < rowCount n) (also : k < rowCount m)
+    (other : (i b : ℕ) → i < blocks n → b < 512 → k ≡ 256 + (blockRows * i + b) → ⊥) where
+  start-row : k < 256 → formAt n k ≡ formAt m k
+  unfolding frameLayout grid formOf
+  start-row l = form-at n k below ∙ beside-first 256 _ _ k l ∙ sym (form-at m k also ∙ beside-first 256 _ _ k l)
+
+  block-rest : (i b : ℕ) → i < blocks n → b < blockRows → k ≡ 256 + (blockRows * i + b) → formAt n k ≡ formAt m k
+  unfolding begins
+  block-rest i b l h e =
+      by-cases (decLt b 512) (λ bit. absurd (other i b l bit e))
+      (λ past.
+      let place : b ≡ 512 + (b - 512) = omega arith in
+      let at : (n : ℕ) → i < blocks n → formAt n k ≡ blockForms (blockFirst i) (begins (messageOf n i) i) (b - 512) =
+      λ n l. ap (formAt n) e ∙ block-row n i b l h ∙ ap (beside 512 (grid 32 (formOf n i Message)) _) place ∙ beside-then 512 _ _ (b - 512) in
+      at n l ∙ sym (at m (omega arith)))
+
+  digest-row : (j : ℕ) → k ≡ 256 + (blockRows * blocks n + j) → j < 256 → formAt n k ≡ formAt m k
+  unfolding frameLayout grid formOf
+  digest-row j e l =
+      let at : (n : ℕ) → k < rowCount n → k ≡ 256 + (blockRows * blocks n + j) → formAt n k ≡ digestForm (blockFirst (blocks n - 1)) (j / 32) (j % 32) =
+      λ n below e.
+      form-at n k below ∙ ap (λ x. frameLayout (blocks n) (λ s i. formOf n i s) x) e
+      ∙ beside-then 256 _ _ (blockRows * blocks n + j) ∙ beside-then (blockRows * blocks n) _ _ j ∙ beside-first 256 _ _ j l in
+      at n below e
+      ∙ ap (λ c. digestForm (blockFirst (c - 1)) (j / 32) (j % 32)) same
+      ∙ sym (at m also (omega (arith, ap (λ c. blockRows * c) same)))
+
+  pub same-row : formAt n k ≡ formAt m k
+  unfolding rowCount
+  same-row =
+      by-cases (decLt k 256) start-row
+      (λ past.
+      by-cases (decLt (k - 256) (blockRows * blocks n))
+      (λ l. block-rest ((k - 256) / blockRows) ((k - 256) % blockRows) (omega arith) (omega arith) (omega arith))
+      (λ l. digest-row (k - 256 - blockRows * blocks n) (omega arith) (omega arith)))
+
+other-rows : (L n k : ℕ) → blocks n ≡ blocksOfBytes L → k < rowsOfBytes L
+    → ((i b : ℕ) → i < blocksOfBytes L → b < 512 → k ≡ 256 + (32320 * i + b) → ⊥) → rowAt (8 * L) k ≡ rowAt n k
+unfolding rowAt rowCount
+other-rows L n k same below other =
+    ap rowOf
+    (same-row (8 * L) n k (blocks-of-bytes L ∙ sym same) (omega (arith, blocks-of-bytes L)) (omega (arith, same))
+    (λ i b l. other i b (omega (arith, blocks-of-bytes L))))
+
+pub whole-bytes : WholeBytes
+whole-bytes = record { wire-count = wires-of-bytes; row-count = rows-of-bytes; bit-rows = bit-rows; other-rows = other-rows }
