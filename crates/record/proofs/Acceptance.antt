@@ -1,6 +1,6 @@
 -- When the check accepts. Its definition is a chain of tests, and an answer about the rows comes only past them all: each test
 -- that is passed is a condition that holds, and the rows' own answer decides the rest.
-use mathlib.Core.Bool.{Bool, and-eq-true-iff, cond, false, not, true, true≢false}
+use mathlib.Core.Bool.{and-eq-true-iff, true}
 use mathlib.Core.List.{List}
 use mathlib.Core.Logic.{_↔_, Iff·rfl, Iff·trans}
 use mathlib.Core.Path.{_≡_, ap, refl, subst}
@@ -9,7 +9,7 @@ use native.Mathlib.Nat.{zero-add}
 use native.Mathlib.Numerals.{add-one}
 use native.Mathlib.Omega.{arith}
 use borrow.Author.Count.{below-more, below-none}
-use borrow.Author.Tests.{eq-eqb, eqb-true, le-ltb, ltb-false, not-false}
+use borrow.Author.Tests.{eq-eqb, eqb-true, le-ltb, ltb-false}
 use lib.Dec.{eqb, lit≤}
 use lib.ListN.{getD, length}
 use Rattle.assignment.specs.Assignment.{entry}
@@ -19,6 +19,7 @@ use Rattle.circuit.specs.Wires.{wireCount}
 use Rattle.encoding.specs.Bits.{bitOfBytes}
 use Rattle.forms.specs.Rows.{Satisfied}
 use Rattle.record.specs.Check.{afterRows, checkAnswer, same}
+use Rattle.refusal.proofs.Tests.{equal-iff, not-iff, past}
 use Rattle.refusal.specs.Refusals.{outcomeNumber, outcomeValues}
 use Rattle.refusal.specs.declared.numbers.RowNumber.{RowNumber}
 use Rattle.refusal.specs.declared.outcome.Outcome.the-variants.{Done, Refused}
@@ -28,7 +29,7 @@ use Rattle.satisfaction.proofs.Lowest.{lowest-all, lowest-failing}
 use Rattle.satisfaction.specs.Lowest.{LowestFailing, lowest}
 use Rattle.satisfaction.specs.declared.rows_check.Verdict.the-variants.{AllSatisfied, Fails}
 use Rattle.satisfaction.specs.declared.rows_check.Verdict.{Verdict}
-use Rattle.sm3.specs.Message.{longest}
+use Rattle.sm3.specs.Message.{mostBits}
 
 -- `same` says that the places agree
 pub same-iff : (n : ℕ) (f g : ℕ → ℕ) → (same n f g ≡ true) ↔ ((k : ℕ) → k < n → f k ≡ g k)
@@ -44,19 +45,6 @@ same-iff (suc n) f g = (
       (same-iff n f g .1 (λ k l. all k (omega arith)), eq-eqb (f n) (g n) (all n (omega arith))),
 )
 
--- a test that refuses where P does not hold
-not-iff : (t : Bool) {P : Type 0} → (t ≡ true) ↔ P → (not t ≡ false) ↔ P
-not-iff t h = Iff·trans (not-false t, ap not) h
-
-pub equal-iff : (x y : ℕ) → (not (eqb x y) ≡ false) ↔ (x ≡ y)
-equal-iff x y = not-iff (eqb x y) (eqb-true x y, eq-eqb x y)
-
--- another answer than the test's own comes from what follows, past the test
-pub past : (t : Bool) {P Q : Type 0} (x y z : Outcome) → (t ≡ false) ↔ P → (outcomeNumber x ≡ outcomeNumber z → ⊥)
-    → (y ≡ z) ↔ Q → (cond t x y ≡ z) ↔ (P × Q)
-past true x y z test other next = (λ e. absurd (other (ap outcomeNumber e)), λ h. absurd (true≢false (test .1 (h .0))))
-past false x y z test other next = (λ e. (test .0 refl, next .0 e), λ h. next .1 (h .1))
-
 -- the verdict is known by the answer
 done : (v : Verdict) → afterRows v ≡ Done → v ≡ AllSatisfied
 done AllSatisfied e = refl
@@ -67,31 +55,31 @@ fails AllSatisfied k e = absurd (omega (arith, ap outcomeNumber e))
 fails (Fails j) k e = ap (λ o. Fails (record { 0 = getD (outcomeValues o) 0 0 })) e
 
 -- the tests before the rows are passed
-pub record Passed (L : ℕ) (d a : List ℕ) : Type 0 where
-  pub range : L ≤ longest
+pub record Passed (n : ℕ) (d a : List ℕ) : Type 0 where
+  pub range : n ≤ mostBits
   pub digest-length : length d ≡ 32
-  pub assignment-length : length a ≡ 8 * wireCount (8 * L)
+  pub assignment-length : length a ≡ 8 * wireCount n
   pub one : entry a 0 ≡ 1
   pub digest-wires : (k : ℕ) → k < 256 → entry a (1 + k) ≡ bitOfBytes d k
 
 -- .. and all rows are satisfied
-pub record Accepts (L : ℕ) (d a : List ℕ) : Type 0 where
-  pub passed : Passed L d a
-  pub satisfied : (k : ℕ) → k < rowCount (8 * L) → Satisfied (entry a) (rowAt (8 * L) k)
+pub record Accepts (n : ℕ) (d a : List ℕ) : Type 0 where
+  pub passed : Passed n d a
+  pub satisfied : (k : ℕ) → k < rowCount n → Satisfied (entry a) (rowAt n k)
 
-module _ (L : ℕ) (d a : List ℕ) where
+module _ (n : ℕ) (d a : List ℕ) where
   abbrev rowsVerdict : Verdict
-  rowsVerdict = lowest (entry a) (rowAt (8 * L)) 0 (rowCount (8 * L))
+  rowsVerdict = lowest (entry a) (rowAt n) 0 (rowCount n)
 
   -- an answer that is none of the refusals 2 to 8
-  answer-of-rows : (z : Outcome) → ((n : ℕ) → 2 ≤ n → n ≤ 8 → n ≡ outcomeNumber z → ⊥)
-      → (checkAnswer L d a ≡ z) ↔ (Passed L d a × (afterRows rowsVerdict ≡ z))
+  answer-of-rows : (z : Outcome) → ((m : ℕ) → 2 ≤ m → m ≤ 8 → m ≡ outcomeNumber z → ⊥)
+      → (checkAnswer n d a ≡ z) ↔ (Passed n d a × (afterRows rowsVerdict ≡ z))
   unfolding checkAnswer
   answer-of-rows z other =
       Iff·trans
-      (past _ (Refused LengthAboveLimit) _ z (ltb-false longest L, le-ltb longest L) (other 2 (lit≤ tt) (lit≤ tt))
+      (past _ (Refused LengthAboveLimit) _ z (ltb-false mostBits n, le-ltb mostBits n) (other 2 (lit≤ tt) (lit≤ tt))
       (past _ (Refused DigestNot32) _ z (equal-iff (length d) 32) (other 5 (lit≤ tt) (lit≤ tt))
-      (past _ (Refused WrongLength) _ z (equal-iff (length a) (8 * wireCount (8 * L))) (other 6 (lit≤ tt) (lit≤ tt))
+      (past _ (Refused WrongLength) _ z (equal-iff (length a) (8 * wireCount n)) (other 6 (lit≤ tt) (lit≤ tt))
       (past _ (Refused WireZero) _ z (equal-iff (entry a 0) 1) (other 7 (lit≤ tt) (lit≤ tt))
       (past _ (Refused DigestWire) _ z (not-iff _ (same-iff 256 (λ k. entry a (1 + k)) (bitOfBytes d))) (other 8 (lit≤ tt) (lit≤ tt))
       Iff·rfl))))) (
@@ -100,28 +88,28 @@ module _ (L : ℕ) (d a : List ℕ) where
         λ (h, rows). (h .range, (h .digest-length, (h .assignment-length, (h .one, (h .digest-wires, rows))))),
       )
 
-  pub accepted-iff : (checkAnswer L d a ≡ Done) ↔ Accepts L d a
+  pub accepted-iff : (checkAnswer n d a ≡ Done) ↔ Accepts n d a
   accepted-iff =
-      Iff·trans (answer-of-rows Done (λ n l h e. omega arith)) (
+      Iff·trans (answer-of-rows Done (λ m l h e. omega arith)) (
         λ (h, rows).
             record {
               passed = h;
-              satisfied = λ k l. lowest-all (entry a) (rowAt (8 * L)) 0 (rowCount (8 * L)) .0 (done rowsVerdict rows) k (omega arith) (omega arith);
+              satisfied = λ k l. lowest-all (entry a) (rowAt n) 0 (rowCount n) .0 (done rowsVerdict rows) k (omega arith) (omega arith);
             },
         λ h. (
           h .passed,
-          ap afterRows (lowest-all (entry a) (rowAt (8 * L)) 0 (rowCount (8 * L)) .1 (λ k l b. h .satisfied k (omega arith))),
+          ap afterRows (lowest-all (entry a) (rowAt n) 0 (rowCount n) .1 (λ k l b. h .satisfied k (omega arith))),
         ),
       )
 
   -- the row that is named fails, and every row below it holds
-  pub unsatisfied-lowest : (k : RowNumber) → checkAnswer L d a ≡ Refused (Unsatisfied k)
-      → LowestFailing (entry a) (rowAt (8 * L)) 0 (rowCount (8 * L)) (k .0)
+  pub unsatisfied-lowest : (k : RowNumber) → checkAnswer n d a ≡ Refused (Unsatisfied k)
+      → LowestFailing (entry a) (rowAt n) 0 (rowCount n) (k .0)
   unsatisfied-lowest k e =
-      subst (λ n. LowestFailing (entry a) (rowAt (8 * L)) 0 n (k .0)) (zero-add (rowCount (8 * L)))
-      (lowest-failing (entry a) (rowAt (8 * L)) 0 (rowCount (8 * L)) k
-      (fails rowsVerdict k (answer-of-rows (Refused (Unsatisfied k)) (λ n l h e. omega arith) .0 e .1)))
+      subst (λ m. LowestFailing (entry a) (rowAt n) 0 m (k .0)) (zero-add (rowCount n))
+      (lowest-failing (entry a) (rowAt n) 0 (rowCount n) k
+      (fails rowsVerdict k (answer-of-rows (Refused (Unsatisfied k)) (λ m l h e. omega arith) .0 e .1)))
 
   -- .. and the length is in range
-  pub in-range : (k : RowNumber) → checkAnswer L d a ≡ Refused (Unsatisfied k) → L ≤ longest
-  in-range k e = answer-of-rows (Refused (Unsatisfied k)) (λ n l h e. omega arith) .0 e .0 .range
+  pub in-range : (k : RowNumber) → checkAnswer n d a ≡ Refused (Unsatisfied k) → n ≤ mostBits
+  in-range k e = answer-of-rows (Refused (Unsatisfied k)) (λ m l h e. omega arith) .0 e .0 .range

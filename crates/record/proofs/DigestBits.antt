@@ -66,17 +66,16 @@ module _ (s : State) where
       ∙ bit-of-word (wordOf s (k / 8 / 4)) (k / 8 % 4) (k % 8) (omega arith) (omega arith)
       ∙ ap₂ (λ i j. bit i (wordOf s j)) place word
 
--- The bytes of a record's digest.
+-- The bytes of the digest of a record of n bits.
+module _ (n : ℕ) (r : List ℕ) where
+  pub length-digest : length (digestBytes n r) ≡ 32
+  unfolding digestBytes bytesOf highestFirst tab
+  length-digest = refl
 
-pub length-digest : (r : List ℕ) → length (digestBytes r) ≡ 32
-unfolding digestBytes bytesOf highestFirst tab
-length-digest r = refl
+  pub digest-bytes : Bytes (digestBytes n r)
+  unfolding digestBytes
+  digest-bytes = state-bytes _
 
-pub digest-bytes : (r : List ℕ) → Bytes (digestBytes r)
-unfolding digestBytes
-digest-bytes r = state-bytes _
-
-pub bit-of-digest : (r : List ℕ) (k : ℕ) → k < 256
-    → bitOfBytes (digestBytes r) k ≡ stateWires (digestOf (8 * length r) (bitOfBytes r)) k
-unfolding digestBytes
-bit-of-digest r = bit-of-state _
+  pub bit-of-digest : (k : ℕ) → k < 256 → bitOfBytes (digestBytes n r) k ≡ stateWires (digestOf n (bitOfBytes r)) k
+  unfolding digestBytes
+  bit-of-digest = bit-of-state _

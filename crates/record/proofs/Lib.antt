@@ -2,3 +2,4 @@ pub mod Acceptance
 pub mod Demand3
 pub mod DigestBits
 pub mod exact
+pub mod WholeBytes

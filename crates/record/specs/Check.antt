@@ -15,7 +15,7 @@ use Rattle.refusal.specs.declared.outcome.Refusal.the-variants.{DigestNot32, Di
 use Rattle.satisfaction.specs.Lowest.{lowest}
 use Rattle.satisfaction.specs.declared.rows_check.Verdict.the-variants.{AllSatisfied, Fails}
 use Rattle.satisfaction.specs.declared.rows_check.Verdict.{Verdict}
-use Rattle.sm3.specs.Message.{longest}
+use Rattle.sm3.specs.Message.{mostBits}
 
 -- the first n places of two sequences are the same
 unfoldable pub same : ℕ → (ℕ → ℕ) → (ℕ → ℕ) → Bool
@@ -27,18 +27,18 @@ abbrev pub afterRows : Verdict → Outcome
 afterRows AllSatisfied = Done
 afterRows (Fails k) = Refused (Unsatisfied k)
 
--- the check of an assignment for a record of `size` bytes against a digest, in the paper's order
+-- the check of an assignment for a record of n bits against a digest, in the paper's order
 unfoldable pub checkAnswer : ℕ → List ℕ → List ℕ → Outcome
-checkAnswer size digest assignment =
-    -- "2. The record length is above 1,015."
-    cond (ltb longest size) (Refused LengthAboveLimit)
+checkAnswer n digest assignment =
+    -- "2. The record length is above" 8,127
+    cond (ltb mostBits n) (Refused LengthAboveLimit)
     -- "5. The digest that an assignment is held against is not 32 bytes."
     (cond (not (eqb (length digest) 32)) (Refused DigestNot32)
     -- "6. An assignment of 8-byte entries handed over to be read is not exactly 8 × wires bytes."
-    (cond (not (eqb (length assignment) (8 * wireCount (8 * size)))) (Refused WrongLength)
+    (cond (not (eqb (length assignment) (8 * wireCount n))) (Refused WrongLength)
     -- "7. Wire 0 does not read as 1."
     (cond (not (eqb (entry assignment 0) 1)) (Refused WireZero)
     -- "8. A digest wire does not read as its bit of the digest."
     (cond (not (same 256 (λ k. entry assignment (1 + k)) (bitOfBytes digest))) (Refused DigestWire)
     -- "9. A row is not satisfied; the lowest row that is not satisfied is returned with it."
-    (afterRows (lowest (entry assignment) (rowAt (8 * size)) 0 (rowCount (8 * size))))))))
+    (afterRows (lowest (entry assignment) (rowAt n) 0 (rowCount n)))))))

@@ -1,10 +1,10 @@
--- Demand 3: "Acceptance is exact, against assignments that somebody else composes" (document 01, "The words of demand 3").
--- Everything is said of raw bytes, as they are lent, and of the definitions that the contracts of `check`, `produce` and
--- `digest` cite.
+-- Demand 3: "Acceptance is exact, against assignments that somebody else composes" (document 01, "The words of demand 3";
+-- document 02, request 2: "The acceptance rule now ranges over bit strings"). Everything is said of raw bytes, as they are lent,
+-- and of the definitions that the contracts of `check`, `produce` and `digest` cite.
 use mathlib.Core.List.{List}
 use mathlib.Core.Logic.{_↔_}
 use mathlib.Core.Path.{_≡_}
-use Prim.Native.Nat.{ℕ, _*_, _≤_, _<_}
+use Prim.Native.Nat.{ℕ, _*_, _<_, _≤_}
 use lib.ListN.{length, take}
 use Rattle.assignment.specs.Assignment.{entry}
 use Rattle.circuit.specs.Wires.{wireCount}
@@ -14,25 +14,25 @@ use Rattle.record.specs.Check.{checkAnswer}
 use Rattle.record.specs.Layout.{recordWire, wireOf}
 use Rattle.record.specs.Produce.{produceAnswer, produceLeft}
 use Rattle.refusal.specs.declared.outcome.Outcome.the-variants.{Done}
-use Rattle.sm3.specs.Message.{digestBytes, longest}
+use Rattle.sm3.specs.Handed.{IsRecord}
+use Rattle.sm3.specs.Message.{digestBytes, mostBits}
 
 -- "An assignment is accepted for a length against a digest when the check of these three returns no refusal"
 abbrev pub IsAccepted : ℕ → List ℕ → List ℕ → Type 0
-IsAccepted L d a = checkAnswer L d a ≡ Done
+IsAccepted n d a = checkAnswer n d a ≡ Done
 
 -- "A record has an assignment's wires modulo the prime when each entry reads as the record's wire of the same number"
-abbrev pub HasWires : List ℕ → List ℕ → Type 0
-HasWires r a = (w : ℕ) → w < wireCount (8 * length r) → entry a w ≡ wireOf (8 * length r) (bitOfBytes r) w
+abbrev pub HasWires : ℕ → List ℕ → List ℕ → Type 0
+HasWires n r a = (w : ℕ) → w < wireCount n → entry a w ≡ wireOf n (bitOfBytes r) w
 
 pub record Demand3 : Type 0 where
   -- "accepted assignments that agree on the record wires agree everywhere"
-  pub unique : (L : ℕ) (d₁ d₂ a₁ a₂ : List ℕ) → IsAccepted L d₁ a₁ → IsAccepted L d₂ a₂
-      → ((k : ℕ) → k < 8 * L → entry a₁ (recordWire k) ≡ entry a₂ (recordWire k))
-      → (w : ℕ) → w < wireCount (8 * L) → entry a₁ w ≡ entry a₂ w
+  pub unique : (n : ℕ) (d₁ d₂ a₁ a₂ : List ℕ) → IsAccepted n d₁ a₁ → IsAccepted n d₂ a₂
+      → ((k : ℕ) → k < n → entry a₁ (recordWire k) ≡ entry a₂ (recordWire k))
+      → (w : ℕ) → w < wireCount n → entry a₁ w ≡ entry a₂ w
   -- "accepted against a digest exactly when some record of that length has this digest and these wires modulo p"
-  pub exact : (L : ℕ) (d a : List ℕ) → L ≤ longest → length d ≡ 32 → Bytes d → length a ≡ 8 * wireCount (8 * L) → Bytes a
-      → (IsAccepted L d a ↔ ((r : List ℕ) × (length r ≡ L) × Bytes r × (digestBytes r ≡ d) × HasWires r a))
+  pub exact : (n : ℕ) (d a : List ℕ) → n ≤ mostBits → length d ≡ 32 → Bytes d → length a ≡ 8 * wireCount n → Bytes a
+      → (IsAccepted n d a ↔ ((r : List ℕ) × IsRecord n r × (digestBytes n r ≡ d) × HasWires n r a))
   -- "our producer's is always accepted"
-  pub produced : (r out : List ℕ) → Bytes r → length r ≤ longest → 8 * wireCount (8 * length r) ≤ length out
-      → IsAccepted (length r) (digestBytes r)
-      (take (8 * wireCount (8 * length r)) (produceLeft (produceAnswer (length r) (length out)) r out))
+  pub produced : (n : ℕ) (r out : List ℕ) → n ≤ mostBits → IsRecord n r → 8 * wireCount n ≤ length out
+      → IsAccepted n (digestBytes n r) (take (8 * wireCount n) (produceLeft (produceAnswer n r (length out)) n r out))

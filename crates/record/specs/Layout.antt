@@ -15,6 +15,6 @@ messageWires m = grid wiresPerBlock (λ i. blockWires (blockBits m i) (chainingV
 unfoldable pub wireOf : ℕ → (ℕ → ℕ) → ℕ → ℕ
 wireOf n r = frameWires (digestOf n r) (messageWires (message n r))
 
--- "those before bit 8 × L of the message are the record wires": the wire of record bit k
+-- "those before bit" n "of the message are the record wires": the wire of record bit k
 unfoldable pub recordWire : ℕ → ℕ
 recordWire k = firstBlock + wiresPerBlock * (k / 512) + k % 512

@@ -3,3 +3,4 @@ pub mod Demand3
 pub mod Layout
 pub mod Produce
 pub mod RowAnswer
+pub mod WholeBytes

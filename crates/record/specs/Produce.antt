@@ -1,9 +1,10 @@
--- The answer of `produce` and the bytes that it leaves (document 01, "Refusals in checking order").
+-- The answer of `produce` and the bytes that it leaves (document 01, "Refusals in checking order"; document 02,
+-- request 2).
 use mathlib.Core.Bool.{cond}
 use mathlib.Core.List.{List, _++_}
 use Prim.Native.Nat.{ℕ, _*_}
 use lib.Dec.{ltb}
-use lib.ListN.{drop, length}
+use lib.ListN.{drop}
 use Rattle.assignment.specs.Assignment.{entryBytes}
 use Rattle.circuit.specs.Wires.{wireCount}
 use Rattle.encoding.specs.Bits.{bitOfBytes}
@@ -11,21 +12,18 @@ use Rattle.record.specs.Layout.{wireOf}
 use Rattle.refusal.specs.Refusals.{left}
 use Rattle.refusal.specs.declared.outcome.Outcome.the-variants.{Done, Refused}
 use Rattle.refusal.specs.declared.outcome.Outcome.{Outcome}
-use Rattle.refusal.specs.declared.outcome.Refusal.the-variants.{BufferTooShort, LengthAboveLimit}
-use Rattle.sm3.specs.Message.{longest}
+use Rattle.refusal.specs.declared.outcome.Refusal.the-variants.{BufferTooShort}
+use Rattle.sm3.specs.Handed.{handedAnswer}
 
 -- "the whole assignment for a record", of n bits: "Our producer writes every entry as the number 0 or 1"
 unfoldable pub assignmentOf : ℕ → (ℕ → ℕ) → List ℕ
 assignmentOf n r = entryBytes (wireCount n) (wireOf n r)
 
--- "2. The record length is above 1,015." "4. The buffer to be written is shorter than .. 8 × wires for an assignment": the
--- answer for a record of `size` bytes and a buffer of `room` bytes
-abbrev pub produceAnswer : ℕ → ℕ → Outcome
-produceAnswer size room =
-    cond (ltb longest size) (Refused LengthAboveLimit)
-    (cond (ltb room (8 * wireCount (8 * size))) (Refused BufferTooShort) Done)
+-- the answer for a record of n bits, its bytes and a buffer of `room` bytes: 2, 13, 14, and "4. The buffer to be written is shorter
+-- than .. 8 × wires for an assignment"
+abbrev pub produceAnswer : ℕ → List ℕ → ℕ → Outcome
+produceAnswer n bytes room = handedAnswer n bytes (cond (ltb room (8 * wireCount n)) (Refused BufferTooShort) Done)
 
 -- what is left in the buffer: the assignment and the bytes past it, which "keep their value"
-abbrev pub produceLeft : Outcome → List ℕ → List ℕ → List ℕ
-produceLeft answer bytes out =
-    left answer (assignmentOf (8 * length bytes) (bitOfBytes bytes) ++ drop (8 * wireCount (8 * length bytes)) out) out
+abbrev pub produceLeft : Outcome → ℕ → List ℕ → List ℕ → List ℕ
+produceLeft answer n bytes out = left answer (assignmentOf n (bitOfBytes bytes) ++ drop (8 * wireCount n) out) out

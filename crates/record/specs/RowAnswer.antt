@@ -12,7 +12,7 @@ use Rattle.record.specs.declared.row.RowAnswer.the-variants.{Given, Refu
 use Rattle.record.specs.declared.row.RowAnswer.{RowAnswer}
 use Rattle.refusal.specs.Refusals.{refusalNumber, refusalValues}
 use Rattle.refusal.specs.declared.outcome.Refusal.the-variants.{LengthAboveLimit, RowOutOfRange, BufferTooShort}
-use Rattle.sm3.specs.Message.{longest}
+use Rattle.sm3.specs.Message.{mostBits}
 
 -- "A row is handed over as the terms of A, then B, then C, .. with three counts"
 unfoldable pub counted : Row → RowAnswer
@@ -22,21 +22,21 @@ counted r = Given (length (r .A)) (length (r .B)) (length (r .C))
 abbrev pub rowBytes : ℕ
 rowBytes = 1956
 
--- for row k of a record of `size` bytes and a buffer of `room` bytes: "2. The record length is above 1,015." "3. The row number
--- is not below the row count." "4. The buffer to be written is shorter than .."
+-- for row k of a record of n bits and a buffer of `room` bytes: "2. The record length is above" 8,127. "3. The row number is not
+-- below the row count." "4. The buffer to be written is shorter than .."
 unfoldable pub rowAnswer : ℕ → ℕ → ℕ → RowAnswer
-rowAnswer size k room =
-    cond (ltb longest size) (Refused LengthAboveLimit)
-    (cond (leb (rowCount (8 * size)) k) (Refused RowOutOfRange)
+rowAnswer n k room =
+    cond (ltb mostBits n) (Refused LengthAboveLimit)
+    (cond (leb (rowCount n) k) (Refused RowOutOfRange)
     (cond (ltb room rowBytes) (Refused BufferTooShort)
-    (counted (rowAt (8 * size) k))))
+    (counted (rowAt n k))))
 
 -- what is left in the buffer: the terms' bytes and the bytes past them, which "keep their value"; "no lent byte changes"
 -- on a refusal
 unfoldable pub rowLeft : RowAnswer → ℕ → ℕ → List ℕ → List ℕ
-rowLeft (Given a b c) size k out =
-    termsBytes (terms (rowAt (8 * size) k)) ++ drop (12 * length (terms (rowAt (8 * size) k))) out
-rowLeft (Refused r) size k out = out
+rowLeft (Given a b c) n k out =
+    termsBytes (terms (rowAt n k)) ++ drop (12 * length (terms (rowAt n k))) out
+rowLeft (Refused r) n k out = out
 
 -- the paper's number of each answer, 0 for none, and its values: the three counts
 abbrev pub rowNumber : RowAnswer → ℕ

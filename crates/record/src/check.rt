@@ -13,7 +13,7 @@ use refusal::outcome::Outcome;
 use refusal::outcome::Refusal;
 use satisfaction::blocks_check::lowest_unsatisfied;
 use satisfaction::rows_check::Verdict;
-use sm3::message::LONGEST;
+use sm3::message::MOST_BITS;
 
 // Whether each digest wire reads as its bit of the digest.
 fn digest_agrees(digest: &[u8], assignment: &[u8]) -> bool
@@ -38,17 +38,16 @@ fn after_rows(verdict: Verdict) -> Outcome
     }
 }
 
-// The check of an assignment for a record of `size` bytes against a digest.
-pub fn check(size: u64, digest: &[u8], assignment: &[u8]) -> Outcome
-    ensures { λ r. ⌜ r ≡ checkAnswer size (now (digest .entry)) (now (assignment .entry)) ⌝ }
+// The check of an assignment for a record of so many bits against a digest.
+pub fn check(bits: u64, digest: &[u8], assignment: &[u8]) -> Outcome
+    ensures { λ r. ⌜ r ≡ checkAnswer bits (now (digest .entry)) (now (assignment .entry)) ⌝ }
 {
-    if LONGEST < size {
+    if MOST_BITS < bits {
         return Outcome::Refused(Refusal::LengthAboveLimit);
     }
     if digest.len() != 32 {
         return Outcome::Refused(Refusal::DigestNot32);
     }
-    let bits = 8 * size;
     if assignment.len() as u64 != 8 * wire_count(bits) {
         return Outcome::Refused(Refusal::WrongLength);
     }

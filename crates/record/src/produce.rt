@@ -6,9 +6,10 @@ ghost use Rattle.assignment.specs.Wrote.{Wrote};
 ghost use Rattle.block.specs.Wires.{wiresPerBlock};
 ghost use Rattle.circuit.specs.Wires.{wireCount, firstBlock};
 ghost use Rattle.encoding.specs.Bits.{bitOfBytes};
+ghost use Rattle.encoding.specs.Packed.{packedLength};
 ghost use Rattle.record.specs.Layout.{messageWires, wireOf};
 ghost use Rattle.record.specs.Produce.{produceAnswer, produceLeft};
-ghost use Rattle.sm3.specs.Message.{blocks, digestOf, longest, message};
+ghost use Rattle.sm3.specs.Message.{blocks, digestOf, message, mostBits};
 use assignment::block_wires::put_block;
 use assignment::wires::put_entry;
 use assignment::wires::put_state;
@@ -21,49 +22,56 @@ use refusal::outcome::Outcome;
 use refusal::outcome::Refusal;
 use sm3::constants::rotated_constants;
 use sm3::constants::start_state;
-use sm3::message::LONGEST;
+use sm3::handed::handed;
 use sm3::message::block_count;
 use sm3::message::message_words;
 use sm3::state::State;
 
 // The message's blocks, one at a time, each with the state that the one before it left, and the last one's: the digest.
-fn put_message(out: &mut [u8], bytes: &[u8]) -> State
-    requires { ⌜ (length (now bytes) ≤ longest) × (8 * wireCount (8 * length (now bytes)) ≤ length (now out)) ⌝ }
-    ensures { λ r. ⌜ r ≡ digestOf (8 * length (now (bytes .entry))) (bitOfBytes (now (bytes .entry))) ⌝ }
-    ensures { λ _. ⌜ Wrote firstBlock (wiresPerBlock * blocks (8 * length (now (bytes .entry)))) (messageWires (message (8 * length (now (bytes .entry))) (bitOfBytes (now (bytes .entry))))) (now (out .entry)) (now (out .exit)) ⌝ }
+fn put_message(out: &mut [u8], bits: u64, bytes: &[u8]) -> State
+    requires { ⌜ (bits ≤ mostBits) × (length (now bytes) ≡ packedLength bits) × (8 * wireCount bits ≤ length (now out)) ⌝ }
+    ensures { λ r. ⌜ r ≡ digestOf bits (bitOfBytes (now (bytes .entry))) ⌝ }
+    ensures { λ _. ⌜ Wrote firstBlock (wiresPerBlock * blocks bits) (messageWires (message bits (bitOfBytes (now (bytes .entry))))) (now (out .entry)) (now (out .exit)) ⌝ }
 {
-    let n = block_count(8 * bytes.len() as u64);
+    let n = block_count(bits);
     let t = rotated_constants();
     let mut v = start_state();
     for i in 0..n {
-        v = put_block(out, block_first(i), v, message_words(bytes, i as usize), &t);
+        v = put_block(
+            out,
+            block_first(i),
+            v,
+            message_words(bits, bytes, i as usize),
+            &t,
+        );
     }
     v
 }
 
 // All wires of a record. The digest stands before the blocks that it comes from, so they are written from the last on.
-fn put_assignment(out: &mut [u8], bytes: &[u8])
-    requires { ⌜ (length (now bytes) ≤ longest) × (8 * wireCount (8 * length (now bytes)) ≤ length (now out)) ⌝ }
-    ensures { λ _. ⌜ Wrote 0 (wireCount (8 * length (now (bytes .entry)))) (wireOf (8 * length (now (bytes .entry))) (bitOfBytes (now (bytes .entry)))) (now (out .entry)) (now (out .exit)) ⌝ }
+fn put_assignment(out: &mut [u8], bits: u64, bytes: &[u8])
+    requires { ⌜ (bits ≤ mostBits) × (length (now bytes) ≡ packedLength bits) × (8 * wireCount bits ≤ length (now out)) ⌝ }
+    ensures { λ _. ⌜ Wrote 0 (wireCount bits) (wireOf bits (bitOfBytes (now (bytes .entry)))) (now (out .entry)) (now (out .exit)) ⌝ }
 {
-    let digest = put_message(out, bytes);
+    let digest = put_message(out, bits, bytes);
     put_state(out, WireNumber(START), start_state());
     put_state(out, WireNumber(DIGEST), digest);
     put_entry(out, WireNumber(0), 1);
 }
 
-// The assignment of a record of at most 1,015 bytes, into the first bytes of `out`.
-pub fn produce(bytes: &[u8], out: &mut [u8]) -> Outcome
-    ensures { λ r. ⌜ r ≡ produceAnswer (length (now (bytes .entry))) (length (now (out .entry))) ⌝ }
-    ensures { λ r. ⌜ now (out .exit) ≡ produceLeft r (now (bytes .entry)) (now (out .entry)) ⌝ }
+// The assignment of a record of at most 8,127 bits, into the first bytes of `out`.
+pub fn produce(bits: u64, bytes: &[u8], out: &mut [u8]) -> Outcome
+    ensures { λ r. ⌜ r ≡ produceAnswer bits (now (bytes .entry)) (length (now (out .entry))) ⌝ }
+    ensures { λ r. ⌜ now (out .exit) ≡ produceLeft r bits (now (bytes .entry)) (now (out .entry)) ⌝ }
 {
-    if LONGEST < bytes.len() as u64 {
-        return Outcome::Refused(Refusal::LengthAboveLimit);
+    let answer = handed(bits, bytes);
+    if let Outcome::Refused(refusal) = answer {
+        return Outcome::Refused(refusal);
     }
-    let wires = wire_count(8 * bytes.len() as u64);
+    let wires = wire_count(bits);
     if (out.len() as u64) < 8 * wires {
         return Outcome::Refused(Refusal::BufferTooShort);
     }
-    put_assignment(out, bytes);
+    put_assignment(out, bits, bytes);
     Outcome::Done
 }

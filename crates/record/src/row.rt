@@ -9,7 +9,7 @@ use forms::term_bytes::put_terms;
 use forms::terms::TERM_ROOM;
 use refusal::numbers::RowNumber;
 use refusal::outcome::Refusal;
-use sm3::message::LONGEST;
+use sm3::message::MOST_BITS;
 
 // The bytes that every row has room in: 12 for each of 163 terms.
 pub const ROW_BYTES: usize = 1956;
@@ -22,15 +22,14 @@ pub enum RowAnswer {
     Refused(Refusal),
 }
 
-// The row of a number for a record of `size` bytes, into the front of `out`: the terms of A, then B, then C.
-pub fn row(size: u64, row: RowNumber, out: &mut [u8]) -> RowAnswer
-    ensures { λ r. ⌜ r ≡ rowAnswer size (row .0) (length (now (out .entry))) ⌝ }
-    ensures { λ r. ⌜ now (out .exit) ≡ rowLeft r size (row .0) (now (out .entry)) ⌝ }
+// The row of a number for a record of so many bits, into the front of `out`: the terms of A, then B, then C.
+pub fn row(bits: u64, row: RowNumber, out: &mut [u8]) -> RowAnswer
+    ensures { λ r. ⌜ r ≡ rowAnswer bits (row .0) (length (now (out .entry))) ⌝ }
+    ensures { λ r. ⌜ now (out .exit) ≡ rowLeft r bits (row .0) (now (out .entry)) ⌝ }
 {
-    if LONGEST < size {
+    if MOST_BITS < bits {
         return RowAnswer::Refused(Refusal::LengthAboveLimit);
     }
-    let bits = 8 * size;
     let count = row_count(bits);
     let k = row.0;
     if count <= k {

@@ -8,11 +8,11 @@ use native.Mathlib.Nat.{div-add-mod, mod-eq-of-lt, zero-add}
 use native.Mathlib.Omega.{arith}
 use Rattle.block.specs.BlockWires.{blockWires}
 use Rattle.block.specs.Wires.{wiresPerBlock}
-use Rattle.circuit.proofs.exact.Messages.{message-content, message-padding}
 use Rattle.circuit.specs.Wires.{frameWires, wireCount, blockFirst}
 use Rattle.encoding.proofs.Sequence.{beside-first, beside-then, grid-at}
 use Rattle.forms.proofs.exact.Runs.{Agree}
 use Rattle.record.specs.Layout.{messageWires, recordWire, wireOf}
+use Rattle.sm3.proofs.message.MessageBits.{message-content, message-padding}
 use Rattle.sm3.specs.Message.{blockBits, blocks, chainingValue, digestOf, message}
 
 -- the record that is read off the record wires

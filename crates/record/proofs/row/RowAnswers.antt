@@ -19,24 +19,24 @@ use Rattle.forms.specs.declared.terms.Counts.{Counts}
 use Rattle.record.specs.RowAnswer.{counted, rowAnswer, rowBytes}
 use Rattle.record.specs.declared.row.RowAnswer.the-variants.{Given, Refused}
 use Rattle.refusal.specs.declared.outcome.Refusal.the-variants.{BufferTooShort, LengthAboveLimit, RowOutOfRange}
-use Rattle.sm3.specs.Message.{longest}
+use Rattle.sm3.specs.Message.{mostBits}
 
-module _ (size k room : ℕ) where
-  pub length-above : longest < size → Refused LengthAboveLimit ≡ rowAnswer size k room
+module _ (n k room : ℕ) where
+  pub length-above : mostBits < n → Refused LengthAboveLimit ≡ rowAnswer n k room
   unfolding rowAnswer
-  length-above h = sym (rw (lt-ltb longest size h))
+  length-above h = sym (rw (lt-ltb mostBits n h))
 
-  pub row-outside : size ≤ longest → rowCount (8 * size) ≤ k → Refused RowOutOfRange ≡ rowAnswer size k room
+  pub row-outside : n ≤ mostBits → rowCount n ≤ k → Refused RowOutOfRange ≡ rowAnswer n k room
   unfolding rowAnswer
-  row-outside h i = sym (rw (le-ltb longest size h, le-leb (rowCount (8 * size)) k i))
+  row-outside h i = sym (rw (le-ltb mostBits n h, le-leb (rowCount n) k i))
 
-  pub room-short : size ≤ longest → k < rowCount (8 * size) → room < rowBytes → Refused BufferTooShort ≡ rowAnswer size k room
+  pub room-short : n ≤ mostBits → k < rowCount n → room < rowBytes → Refused BufferTooShort ≡ rowAnswer n k room
   unfolding rowAnswer
-  room-short h i j = sym (rw (le-ltb longest size h, lt-leb (rowCount (8 * size)) k i, lt-ltb room rowBytes j))
+  room-short h i j = sym (rw (le-ltb mostBits n h, lt-leb (rowCount n) k i, lt-ltb room rowBytes j))
 
-  pub row-given : size ≤ longest → k < rowCount (8 * size) → rowBytes ≤ room → counted (rowAt (8 * size) k) ≡ rowAnswer size k room
+  pub row-given : n ≤ mostBits → k < rowCount n → rowBytes ≤ room → counted (rowAt n k) ≡ rowAnswer n k room
   unfolding rowAnswer
-  row-given h i j = sym (rw (le-ltb longest size h, lt-leb (rowCount (8 * size)) k i, le-ltb room rowBytes j))
+  row-given h i j = sym (rw (le-ltb mostBits n h, lt-leb (rowCount n) k i, le-ltb room rowBytes j))
 
 module _ {r : Row} {n : Counts} {l m : List ℕ} (h : Filled r n l m) where
   pub filled-counted : Given (n .a) (n .b) (n .c) ≡ counted r

@@ -11,14 +11,11 @@ use Rattle.record.proofs.check.check.Tie as tie
 
 returns : tie.Need-returns
 returns c =
-    let a = c .before .before .before .args in sym (refusal-2 (a .size) (a .digest .now) (a .assignment .now) (c .if1 .taken))
+    let a = c .before .before .before .args in sym (refusal-2 (a .bits) (a .digest .now) (a .assignment .now) (c .if1 .taken))
 
 returns-2 : tie.Need-returns-2
 returns-2 c =
-    let a = c .before .before .before .before .args in sym (refusal-5 (a .size) (a .digest .now) (a .assignment .now) (c .before .if1 .left) (c .if2 .taken))
-
-mul-bits : tie.Need-mul-bits
-mul-bits c = search needs
+    let a = c .before .before .before .before .args in sym (refusal-5 (a .bits) (a .digest .now) (a .assignment .now) (c .before .if1 .left) (c .if2 .taken))
 
 wire-count-requires : tie.Need-wire-count-requires
 wire-count-requires c κs = search needs
@@ -30,7 +27,7 @@ returns-3 : tie.Need-returns-3
 returns-3 c =
     let a = c .before .before .before .before .before .before .args in
     sym
-    (refusal-6 (a .size) (a .digest .now) (a .assignment .now) (c .before .before .before .if1 .left) (c .before .before .if2 .left)
+    (refusal-6 (a .bits) (a .digest .now) (a .assignment .now) (c .before .before .before .if1 .left) (c .before .before .if2 .left)
     (λ e. c .if3 .taken (e ∙ ap (λ n. 8 * n) (sym (c .before .wire-count .ensures .0)))))
 
 read-requires : tie.Need-read-requires
@@ -40,7 +37,7 @@ returns-4 : tie.Need-returns-4
 returns-4 c =
     let a = c .before .before .before .before .before .before .before .before .args in
     sym
-    (refusal-7 (a .size) (a .digest .now) (a .assignment .now) (c .before .before .before .before .before .if1 .left) (c .before .before .before .before .if2 .left)
+    (refusal-7 (a .bits) (a .digest .now) (a .assignment .now) (c .before .before .before .before .before .if1 .left) (c .before .before .before .before .if2 .left)
     (c .before .before .if3 .left ∙ ap (λ n. 8 * n) (c .before .before .before .wire-count .ensures .0))
     (λ e. c .if4 .taken (c .before .read .ensures ∙ e)))
 
@@ -51,7 +48,7 @@ returns-5 : tie.Need-returns-5
 returns-5 c =
     let a = c .before .before .before .before .before .before .before .before .before .before .args in
     sym
-    (from-wires (a .size) (a .digest .now) (a .assignment .now) (c .before .before .before .before .before .before .before .if1 .left) (c .before .before .before .before .before .before .if2 .left)
+    (from-wires (a .bits) (a .digest .now) (a .assignment .now) (c .before .before .before .before .before .before .before .if1 .left) (c .before .before .before .before .before .before .if2 .left)
     (c .before .before .before .before .if3 .left ∙ ap (λ n. 8 * n) (c .before .before .before .before .before .wire-count .ensures .0))
     (sym (c .before .before .before .read .ensures) ∙ c .before .before .if4 .left) false (sym (c .before .digest-agrees .ensures) ∙ not-true _ (c .if5 .taken)))
 
@@ -68,7 +65,7 @@ returns-6 c =
     c .after-rows .ensures
     ∙ ap afterRows (judged .lowest-unsatisfied .ensures)
     ∙ sym
-    (from-wires (a .size) (a .digest .now) (a .assignment .now) (judged .before .before .before .before .before .before .before .before .if1 .left) (judged .before .before .before .before .before .before .before .if2 .left)
+    (from-wires (a .bits) (a .digest .now) (a .assignment .now) (judged .before .before .before .before .before .before .before .before .if1 .left) (judged .before .before .before .before .before .before .before .if2 .left)
     (judged .before .before .before .before .before .if3 .left ∙ ap (λ n. 8 * n) (judged .before .before .before .before .before .before .wire-count .ensures .0))
     (sym (judged .before .before .before .before .read .ensures) ∙ judged .before .before .before .if4 .left) true (sym (judged .before .before .digest-agrees .ensures) ∙ not-false _ (judged .before .if5 .left)))
 
@@ -78,7 +75,6 @@ check-spec =
     (tie.spec
     returns
     returns-2
-    mul-bits
     wire-count-requires
     mul-if3
     returns-3

@@ -1,37 +1,61 @@
--- The tests are the refusals in their order; past them all wires are written from the buffer's front on.
-use mathlib.Core.Path.{refl}
+-- What is asked of the record stands before what is asked of the buffer; past both all wires are written from the buffer's front on.
+use mathlib.Core.Path.{_∙_, refl, sym}
 use Prim.Native.Nat.{_*_, _<_, _≤_}
 use native.Mathlib.Omega.{arith}
 use borrow.Author.Needs.{needs}
 use borrow.Author.Tests.{le-ltb, lt-ltb}
+use denote.Ref.{now}
 use lib.ListN.{length}
 use Rattle.assignment.proofs.Writes.{wrote-front}
 use Rattle.circuit.specs.Wires.{wireCount}
 use Rattle.record.specs.Produce.{assignmentOf}
-use denote.Ref.{now}
+use Rattle.sm3.proofs.handed.Asked.{handed-done, handed-tests}
 use Rattle.record.proofs.produce.produce.Statement.{statement}
 use Rattle.record.proofs.produce.produce.Tie as tie
 
-returns : tie.Need-returns
-returns c = (simp (lt-ltb _ _ (c .if1 .taken)), refl)
+handed-requires : tie.Need-handed-requires
+handed-requires c κs = search needs
 
-mul-wire-count : tie.Need-mul-wire-count
-mul-wire-count c = search needs
+enum-known-answer : tie.Need-enum-known-answer
+enum-known-answer c = search needs
+
+returns : tie.Need-returns
+returns c =
+    let asked = c .before .before .before in
+    let a = asked .before .before .before .args in
+    (sym (handed-tests (a .bits) (now (a .bytes)) .stands _ _ (sym (asked .handed .ensures) ∙ c .before .answer .given .1)), refl)
+
+enum-told : tie.Need-enum-told
+enum-told c = search needs
 
 wire-count-requires : tie.Need-wire-count-requires
-wire-count-requires c κs = search needs
+wire-count-requires c κs =
+    let asked = c .before .before in
+    let a = asked .before .before .before .args in
+    handed-done (a .bits) (now (a .bytes)) .0 (sym (asked .handed .ensures) ∙ c .enum-told .given .1) .0
 
-mul-if2 : tie.Need-mul-if2
-mul-if2 c = search needs
+mul-if1 : tie.Need-mul-if1
+mul-if1 c = search needs
 
 returns-2 : tie.Need-returns-2
 returns-2 c =
-    let a = c .before .before .before .before .before .args in
-    let short : length (now (a .out)) < 8 * wireCount (8 * length (now (a .bytes))) = omega arith in
-    (simp (le-ltb _ _ (c .before .before .if1 .left), lt-ltb _ _ short), refl)
+    let told = c .before .before in
+    let asked = told .before .before in
+    let a = asked .before .before .before .args in
+    let short : length (now (a .out)) < 8 * wireCount (a .bits) = omega arith in (
+      sym
+          (handed-tests (a .bits) (now (a .bytes)) .passed _ (sym (asked .handed .ensures) ∙ told .enum-told .given .1)
+          ∙ simp (lt-ltb _ _ short)),
+      refl,
+    )
 
 put-assignment-requires : tie.Need-put-assignment-requires
-put-assignment-requires c κs = search needs
+put-assignment-requires c κs =
+    let told = c .before .before .before in
+    let asked = told .before .before in
+    let a = asked .before .before .before .args in
+    let passed = handed-done (a .bits) (now (a .bytes)) .0 (sym (asked .handed .ensures) ∙ told .enum-told .given .1) in
+    (passed .0, passed .1 .0, omega arith)
 
 same-length : tie.Need-same-length
 same-length c = search needs
@@ -39,19 +63,27 @@ same-length c = search needs
 returns-3 : tie.Need-returns-3
 unfolding assignmentOf
 returns-3 c =
-    let tests = c .before .before .before .before in
-    let a = tests .before .before .before .before .before .args in
-    let room : 8 * wireCount (8 * length (now (a .bytes))) ≤ length (now (a .out)) = omega arith in
-    (simp (le-ltb _ _ (tests .before .before .if1 .left), le-ltb _ _ room), wrote-front room (c .before .before .put-assignment .ensures))
+    let room = c .before .before .before .before in
+    let told = room .before .before in
+    let asked = told .before .before in
+    let a = asked .before .before .before .args in
+    let fits : 8 * wireCount (a .bits) ≤ length (now (a .out)) = omega arith in (
+      sym
+          (handed-tests (a .bits) (now (a .bytes)) .passed _ (sym (asked .handed .ensures) ∙ told .enum-told .given .1)
+          ∙ simp (le-ltb _ _ fits)),
+      wrote-front fits (c .before .before .put-assignment .ensures),
+    )
 
 pub produce-spec : {M : Type 1} → statement M
 produce-spec =
     tie.close
     (tie.spec
+    handed-requires
+    enum-known-answer
     returns
-    mul-wire-count
+    enum-told
     wire-count-requires
-    mul-if2
+    mul-if1
     returns-2
     put-assignment-requires
     same-length

@@ -3,7 +3,6 @@ use mathlib.Core.Path.{_≡_, ap, refl, subst}
 use Prim.Native.Nat.{_+_, _*_}
 use native.Mathlib.Omega.{arith}
 use borrow.Author.Needs.{needs}
-use lib.ListN.{length}
 use Rattle.assignment.proofs.Writes.{wrote-as, wrote-before}
 use Rattle.assignment.specs.Wrote.{Wrote}
 use Rattle.block.specs.BlockWires.{stateWires}
@@ -45,7 +44,7 @@ returns c =
     let p2 = p3 .before .before .before .before in
     let p1 = p2 .before .before .before .before .before in
     let a = p1 .before .before .before .before .args in
-    let n = 8 * length (now (a .bytes)) in
+    let n = a .bits in
     let all : 1 + (256 + (256 + wiresPerBlock * blocks n)) ≡ wireCount n = omega arith in
     subst (λ k. Wrote 0 k (wireOf n (bitOfBytes (now (a .bytes)))) (now (a .out)) (p4 .put-entry .last .0)) all
     (wrote-before digestFirst refl

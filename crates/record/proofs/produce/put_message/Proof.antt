@@ -5,7 +5,6 @@ use Prim.Native.Nat.{ℕ, _+_, _-_, _*_, _≤_}
 use native.Mathlib.Numerals.{add-one}
 use native.Mathlib.Omega.{arith}
 use borrow.Author.Needs.{needs}
-use lib.ListN.{length}
 use Rattle.assignment.proofs.Writes.{length-wrote, wrote-as, wrote-none, wrote-row}
 use Rattle.assignment.specs.Wrote.{Wrote}
 use Rattle.block.specs.BlockWires.{blockWires}
@@ -22,21 +21,18 @@ use Rattle.record.proofs.produce.put_message.Statement.{statement}
 use Rattle.record.proofs.produce.put_message.Tie as tie
 
 -- the record's message, and its block wires
-abbrev messageOf : List ℕ → ℕ → ℕ
-messageOf bytes = message (8 * length bytes) (bitOfBytes bytes)
+abbrev messageOf : ℕ → List ℕ → ℕ → ℕ
+messageOf n bytes = message n (bitOfBytes bytes)
 
 abbrev wires : (ℕ → ℕ) → ℕ → ℕ
 wires m = grid wiresPerBlock (λ i. blockWires (blockBits m i) (chainingValue m i))
 
 abbrev Inv-loop : tie.InvT-loop
-Inv-loop out₀ bytes n t v₀ i₀ out v i =
-    (i ≤ n) × (v ≡ chainingValue (messageOf bytes) i) × Wrote firstBlock (wiresPerBlock * i) (wires (messageOf bytes)) out₀ out
+Inv-loop out₀ bits bytes n t v₀ i₀ out v i =
+    (i ≤ n) × (v ≡ chainingValue (messageOf bits bytes) i) × Wrote firstBlock (wiresPerBlock * i) (wires (messageOf bits bytes)) out₀ out
 
 abbrev μ-loop : tie.MeasureT-loop
-μ-loop out₀ bytes n t v₀ i₀ out v i = n - i
-
-mul-block-count : tie.Need-mul-block-count Inv-loop μ-loop
-mul-block-count c = search needs
+μ-loop out₀ bits bytes n t v₀ i₀ out v i = n - i
 
 block-count-requires : tie.Need-block-count-requires Inv-loop μ-loop
 block-count-requires c κs = search needs
@@ -77,11 +73,12 @@ loop-again : tie.Need-loop-again Inv-loop μ-loop
 unfolding blockBits chainingValue
 loop-again c =
     let l = c .before .before .before .before .before .before .before .before in
-    let bytes = l .before .before .before .before .before .before .args .bytes .now in
-    let m = messageOf bytes in
+    let a = l .before .before .before .before .before .before .args in
+    let bytes = a .bytes .now in
+    let m = messageOf (a .bits) bytes in
     let i = l .loop .i in
     let put = c .before .before .put-block .ensures (blockBits m i)
-    (λ k below. message-lt (8 * length bytes) (bitOfBytes bytes) (λ k below. bit-of-bytes-lt bytes k) (512 * i + k))
+    (λ k below. message-lt (a .bits) (bitOfBytes bytes) (λ k below. bit-of-bytes-lt bytes k) (512 * i + k))
     (c .before .before .before .before .message-words .ensures .1) in (
       omega arith,
       put .0 ∙ ap (block (blockBits m i)) (l .loop .inv .1) ∙ ap (chainingValue m) (sym (add-one i)),
@@ -96,9 +93,9 @@ returns : tie.Need-returns Inv-loop μ-loop
 unfolding digestOf messageWires
 returns c =
     let l = c .before .loop in
-    let bytes = c .before .before .before .before .before .before .before .args .bytes .now in
-    let all : l .i ≡ blocks (8 * length bytes) = omega arith in
-    (l .inv .1 ∙ ap (chainingValue (messageOf bytes)) all, rw all at (l .inv .2))
+    let a = c .before .before .before .before .before .before .before .args in
+    let all : l .i ≡ blocks (a .bits) = omega arith in
+    (l .inv .1 ∙ ap (chainingValue (messageOf (a .bits) (a .bytes .now))) all, rw all at (l .inv .2))
 
 pub put-message-spec : {M : Type 1} → statement M
 put-message-spec =
@@ -106,7 +103,6 @@ put-message-spec =
     (tie.spec
     Inv-loop
     μ-loop
-    mul-block-count
     block-count-requires
     rotated-constants-requires
     start-state-requires

@@ -10,9 +10,6 @@ returns : tie.Need-returns
 unfolding rowLeft
 returns c = (length-above _ _ _ (c .if1 .taken), refl)
 
-mul-bits : tie.Need-mul-bits
-mul-bits c = search needs
-
 row-count-requires : tie.Need-row-count-requires
 row-count-requires c κs = search needs
 
@@ -67,7 +64,6 @@ row-spec =
     tie.close
     (tie.spec
     returns
-    mul-bits
     row-count-requires
     returns-2
     returns-3
