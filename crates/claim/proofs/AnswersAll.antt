@@ -3,7 +3,7 @@
 use mathlib.Core.List.{List}
 use mathlib.Core.Logic.{by-cases}
 use mathlib.Core.Path.{_≡_, _∙_, ap, refl, sym}
-use Prim.Native.Nat.{ℕ, _+_, _-_, _*_, _<_, _≤_}
+use Prim.Native.Nat.{ℕ, _+_, _-_, _<_, _≤_}
 use native.Mathlib.Decide.{decLt}
 use native.Mathlib.Omega.{arith}
 use lib.ListN.{length, length-drop, take}
@@ -17,26 +17,26 @@ use Rattle.claim.specs.Line.{digestAt, packedFrom, parseOf}
 use Rattle.claim.specs.declared.answer.Answer.the-variants.{Checked}
 use Rattle.claim.specs.declared.line.Parsed.the-variants.{Claim, Malformed}
 use Rattle.claim.specs.declared.line.Parsed.{Parsed}
+use Rattle.encoding.specs.Packed.{packedLength}
 use Rattle.packing.proofs.Answers.{check-length, check-range}
-use Rattle.packing.specs.Packed.{packedLength}
 use Rattle.packing.specs.PackedCheck.{packedCheckAnswer}
-use Rattle.sm3.specs.Message.{blocks, longest}
+use Rattle.sm3.specs.Message.{blocks, mostBits}
 use Rattle.text.proofs.AfterField.{length-field}
 use Rattle.text.specs.Text.{comma}
 
 -- the packed bytes of the longest records
-most-packed : (L : ℕ) → L ≤ longest → packedLength (wireCount (8 * L)) ≤ 45121
+most-packed : (n : ℕ) → n ≤ mostBits → packedLength (wireCount n) ≤ 45121
 unfolding wireCount blocks
-most-packed L range = omega arith
+most-packed n range = omega arith
 
 -- packed bytes of two wrong lengths are refused alike
-both-long : (L : ℕ) (d p q : List ℕ) → 45121 < length p → 45121 < length q → packedCheckAnswer L d p ≡ packedCheckAnswer L d q
-both-long L d p q long-p long-q =
-    by-cases (decLt longest L) (λ above. check-range L d p above ∙ sym (check-range L d q above))
+both-long : (n : ℕ) (d p q : List ℕ) → 45121 < length p → 45121 < length q → packedCheckAnswer n d p ≡ packedCheckAnswer n d q
+both-long n d p q long-p long-q =
+    by-cases (decLt mostBits n) (λ above. check-range n d p above ∙ sym (check-range n d q above))
     (λ within.
-    let range : L ≤ longest = omega arith in
-    check-length L d p range (λ e. omega (arith, most-packed L range))
-    ∙ sym (check-length L d q range (λ e. omega (arith, most-packed L range))))
+    let range : n ≤ mostBits = omega arith in
+    check-length n d p range (λ e. omega (arith, most-packed n range))
+    ∙ sym (check-length n d q range (λ e. omega (arith, most-packed n range))))
 
 module _ (m : ℕ) (s : List ℕ) (room : inputRoom ≤ m) where
   same-check : (l at : ℕ) → parseOf s ≡ Claim l at

@@ -1,4 +1,4 @@
--- What the program `packed` answers and prints (document 02, request 1).
+-- What the program `packed` answers and prints (document 02, request 1; request 2 for the length l in bits).
 use mathlib.Core.List.{List, []}
 use mathlib.Core.Path.{_≡_}
 use Prim.Native.Nat.{ℕ, _≤_}

@@ -1,5 +1,6 @@
 -- The line of a claim (document 02, request 1: "a line of length (written as for `rows`), comma and digest (64 lower-case
--- hexadecimal digits), ended by one line feed, then the packed bytes to the end"; "a bad line is refusal 1").
+-- hexadecimal digits), ended by one line feed, then the packed bytes to the end"; "a bad line is refusal 1"; request 2: "The
+-- length becomes a bit count").
 use mathlib.Core.Bool.{cond, _&&_}
 use mathlib.Core.List.{List, [], _∷_, _++_}
 use mathlib.Core.Path.{_≡_}
@@ -14,12 +15,12 @@ use Rattle.text.specs.Text.{comma, lineFeed}
 use Rattle.claim.specs.declared.line.Parsed.{Parsed}
 use Rattle.claim.specs.declared.line.Parsed.the-variants.{Claim, Malformed}
 
--- the line of a length and a digest
+-- the line of a length l in bits and a digest d
 unfoldable pub line : ℕ → List ℕ → List ℕ
 line l d = field l comma ++ hex d ++ (lineFeed ∷ [])
 
--- an input whose line is not refused: the length has at most 9 digits, the digest 32 bytes, and p is what stands behind the
--- line
+-- an input whose line is not refused: the length in bits has at most 9 digits, the digest 32 bytes, and p is what stands behind
+-- the line
 abbrev pub Right : List ℕ → ℕ → List ℕ → List ℕ → Type 0
 Right s l d p = (l < 1000000000) × (length d ≡ 32) × Bytes d × (s ≡ line l d ++ p)
 
@@ -30,7 +31,7 @@ digestAt s at = bytesOfHex 32 s at
 abbrev pub packedFrom : List ℕ → ℕ → List ℕ
 packedFrom s at = drop (at + 65) s
 
--- the length, and the place behind its comma, where 64 digits and the line feed must stand
+-- the length in bits, and the place behind its comma, where 64 digits and the line feed must stand
 unfoldable pub parseOf : List ℕ → Parsed
 parseOf s =
     after Malformed (fieldOf comma s) s λ l at _.

@@ -1,4 +1,4 @@
-// The answer to a claim: a line of length and digest, and packed bytes.
+// The answer to a claim: a line of length in bits and digest, and packed bytes.
 ghost use mathlib.Core.Path.{_≡_};
 ghost use Prim.Native.Nat.{_≤_};
 ghost use lib.ListN.{length};
@@ -24,17 +24,17 @@ pub enum Answer {
     Checked(Outcome),
 }
 
-// The check of packed bytes for records of `size` bytes against a digest. The entries go into `room`.
-fn check_packed(size: u64, digest: &[u8], packed: &[u8], room: &mut [u8]) -> Outcome
+// The check of packed bytes for records of so many bits against a digest. The entries go into `room`.
+fn check_packed(bits: u64, digest: &[u8], packed: &[u8], room: &mut [u8]) -> Outcome
     requires { ⌜ length (now room) ≡ 2887688 ⌝ }
-    ensures { λ r. ⌜ r ≡ packedCheckAnswer size (now (digest .entry)) (now (packed .entry)) ⌝ }
+    ensures { λ r. ⌜ r ≡ packedCheckAnswer bits (now (digest .entry)) (now (packed .entry)) ⌝ }
 {
-    let answer = unpack(size, packed, room);
+    let answer = unpack(bits, packed, room);
     if let Outcome::Refused(refusal) = answer {
         return Outcome::Refused(refusal);
     }
-    let end = (8 * wire_count(8 * size)) as usize;
-    check(size, digest, &room[..end])
+    let end = (8 * wire_count(bits)) as usize;
+    check(bits, digest, &room[..end])
 }
 
 // The answer to the bytes of standard input. `room` is room for the longest assignment.
@@ -42,13 +42,13 @@ pub fn answer_to(input: &[u8], room: &mut [u8]) -> Answer
     requires { ⌜ length (now room) ≡ 2887688 ⌝ }
     ensures { λ r. ⌜ r ≡ answerTo (now (input .entry)) ⌝ }
 {
-    let Parsed::Claim { length, digest } = parse(input) else {
+    let Parsed::Claim { bits, digest } = parse(input) else {
         return Answer::BadLine;
     };
     let mut bytes = [0u8; 32];
     put_bytes_of_hex(input, digest, &mut bytes);
     let packed = digest + 65;
-    Answer::Checked(check_packed(length, &bytes, &input[packed..], room))
+    Answer::Checked(check_packed(bits, &bytes, &input[packed..], room))
 }
 
 // `accepted`, or the refusal's number.

@@ -1,4 +1,4 @@
-// The line of a claim: `length,digest` and a line feed, before the packed bytes.
+// The line of a claim: `bits,digest` and a line feed, before the packed bytes.
 ghost use mathlib.Core.Path.{_≡_};
 ghost use Rattle.claim.specs.Line.{parseOf};
 use text::field::Field;
@@ -7,18 +7,18 @@ use text::hex::all_hex;
 
 // What the line says.
 pub enum Parsed {
-    // A length below 1,000,000,000, and the place where the digits of the digest begin.
-    Claim { length: u64, digest: usize },
+    // A length in bits below 1,000,000,000, and the place where the digits of the digest begin.
+    Claim { bits: u64, digest: usize },
     // It is no such line.
     Malformed,
 }
 
-// The length and the digest's place of the line at the front of s.
+// The length in bits and the digest's place of the line at the front of s.
 pub fn parse(s: &[u8]) -> Parsed
     ensures { λ r. ⌜ r ≡ parseOf (now (s .entry)) ⌝ }
 {
     let Field::Number {
-        value: length,
+        value: bits,
         bytes: digest,
     } = read_field(s, 0, b',')
     else {
@@ -34,5 +34,5 @@ pub fn parse(s: &[u8]) -> Parsed
     if s[end] != b'\n' {
         return Parsed::Malformed;
     }
-    Parsed::Claim { length, digest }
+    Parsed::Claim { bits, digest }
 }

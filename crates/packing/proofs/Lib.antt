@@ -1,5 +1,5 @@
 pub mod Answers
-pub mod PackedBits
 pub mod PackedExact
 pub mod RoundTrip
 pub mod WordBytes
+pub mod WholeBytes

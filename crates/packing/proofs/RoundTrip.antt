@@ -12,13 +12,14 @@ use Rattle.assignment.proofs.Writes.{entries-congruent}
 use Rattle.assignment.specs.Assignment.{entry, entryBytes}
 use Rattle.circuit.specs.Wires.{wireCount}
 use Rattle.encoding.proofs.Bits.{bit-of-bytes-lt}
+use Rattle.encoding.proofs.PackedBits.{length-packed, packed-known, spare-of-packed, wire-of-packed}
 use Rattle.encoding.specs.Bits.{bitOfBytes}
 use Rattle.encoding.specs.Bytes.{Bytes}
+use Rattle.encoding.specs.Packed.{packedBytes, packedLength}
 use Rattle.field.specs.Field.{p}
 use Rattle.packing.proofs.Answers.{pack-done, packs-done, unpack-done, unpacks-done}
-use Rattle.packing.proofs.PackedBits.{length-packed, packed-known, spare-of-packed, wire-of-packed}
 use Rattle.packing.specs.Pack.{packAnswer}
-use Rattle.packing.specs.Packed.{packedBytes, packedLength, unpackedBytes}
+use Rattle.packing.specs.Packed.{unpackedBytes}
 use Rattle.packing.specs.RoundTrip.{RoundTrip, packs, unpacks}
 use Rattle.packing.specs.Unpack.{unpackAnswer}
 use Rattle.record.proofs.Acceptance.{accepted-iff}
@@ -29,85 +30,85 @@ use Rattle.record.specs.Demand3.{IsAccepted}
 use Rattle.refusal.specs.declared.outcome.Outcome.the-variants.{Done}
 
 -- entries that are residues read back as they were written
-entry-of-bytes : (n : ℕ) (s : ℕ → ℕ) (w : ℕ) → w < n → s w < p → entry (entryBytes n s) w ≡ s w
-entry-of-bytes n s w l below =
-    ap (λ bytes. entry bytes w) (sym (append-nil (entryBytes n s)))
-    ∙ entry-written n s [] w l (omega arith)
+entry-of-bytes : (wires : ℕ) (s : ℕ → ℕ) (w : ℕ) → w < wires → s w < p → entry (entryBytes wires s) w ≡ s w
+entry-of-bytes wires s w l below =
+    ap (λ bytes. entry bytes w) (sym (append-nil (entryBytes wires s)))
+    ∙ entry-written wires s [] w l (omega arith)
     ∙ mod-eq-of-lt below
 
 -- an unpacked entry is its bit
-pub entry-of-unpacked : (n : ℕ) (q : List ℕ) (w : ℕ) → w < n → entry (unpackedBytes n q) w ≡ bitOfBytes q w
+pub entry-of-unpacked : (wires : ℕ) (q : List ℕ) (w : ℕ) → w < wires → entry (unpackedBytes wires q) w ≡ bitOfBytes q w
 unfolding unpackedBytes
-entry-of-unpacked n q w l = entry-of-bytes n (bitOfBytes q) w l (omega (arith, bit-of-bytes-lt q w))
+entry-of-unpacked wires q w l = entry-of-bytes wires (bitOfBytes q) w l (omega (arith, bit-of-bytes-lt q w))
 
-pub length-unpacked : (n : ℕ) (q : List ℕ) → length (unpackedBytes n q) ≡ 8 * n
+pub length-unpacked : (wires : ℕ) (q : List ℕ) → length (unpackedBytes wires q) ≡ 8 * wires
 unfolding unpackedBytes
-length-unpacked n q = length-entries n (bitOfBytes q)
+length-unpacked wires q = length-entries wires (bitOfBytes q)
 
 -- unpacked, packed bytes give the values that were packed
-unpacked-packed : (n : ℕ) (s : ℕ → ℕ) → ((w : ℕ) → w < n → s w < 2) → unpackedBytes n (packedBytes n s) ≡ entryBytes n s
+unpacked-packed : (wires : ℕ) (s : ℕ → ℕ) → ((w : ℕ) → w < wires → s w < 2) → unpackedBytes wires (packedBytes wires s) ≡ entryBytes wires s
 unfolding unpackedBytes
-unpacked-packed n s bits = entries-congruent n _ s (wire-of-packed n s bits)
+unpacked-packed wires s bits = entries-congruent wires _ s (wire-of-packed wires s bits)
 
 -- the check of entries that are written modulo p
-check-same : (L : ℕ) (d a b : List ℕ) → length a ≡ length b → entry a ≡ entry b → checkAnswer L d a ≡ checkAnswer L d b
+check-same : (n : ℕ) (d a b : List ℕ) → length a ≡ length b → entry a ≡ entry b → checkAnswer n d a ≡ checkAnswer n d b
 unfolding checkAnswer
-check-same L d a b long same = rw (long, same)
+check-same n d a b long same = rw (long, same)
 
-check-entries : (L : ℕ) (d a : List ℕ) → length a ≡ 8 * wireCount (8 * L) → ((w : ℕ) → w < wireCount (8 * L) → entry a w < 2)
-    → checkAnswer L d (entryBytes (wireCount (8 * L)) (entry a)) ≡ checkAnswer L d a
-check-entries L d a long bits =
-    let n : ℕ = wireCount (8 * L) in
-    check-same L d (entryBytes n (entry a)) a (length-entries n (entry a) ∙ sym long)
-    (entries-same n (entryBytes n (entry a)) a (length-entries n (entry a)) long
-    (λ w l. entry-of-bytes n (entry a) w l (omega (arith, bits w l))))
+check-entries : (n : ℕ) (d a : List ℕ) → length a ≡ 8 * wireCount n → ((w : ℕ) → w < wireCount n → entry a w < 2)
+    → checkAnswer n d (entryBytes (wireCount n) (entry a)) ≡ checkAnswer n d a
+check-entries n d a long bits =
+    let wires : ℕ = wireCount n in
+    check-same n d (entryBytes wires (entry a)) a (length-entries wires (entry a) ∙ sym long)
+    (entries-same wires (entryBytes wires (entry a)) a (length-entries wires (entry a)) long
+    (λ w l. entry-of-bytes wires (entry a) w l (omega (arith, bits w l))))
 
-module _ (L : ℕ) (a out : List ℕ) (done : packAnswer L a (length out) ≡ Done) where
-  unpack-of-packed : (room : List ℕ) → 8 * wireCount (8 * L) ≤ length room
-      → (unpackAnswer L (packs L a out) (length room) ≡ Done)
-      × (unpacks L (packs L a out) room ≡ entryBytes (wireCount (8 * L)) (entry a))
+module _ (n : ℕ) (a out : List ℕ) (done : packAnswer n a (length out) ≡ Done) where
+  unpack-of-packed : (room : List ℕ) → 8 * wireCount n ≤ length room
+      → (unpackAnswer n (packs n a out) (length room) ≡ Done)
+      × (unpacks n (packs n a out) room ≡ entryBytes (wireCount n) (entry a))
   unpack-of-packed room fits =
-      let n : ℕ = wireCount (8 * L) in
-      let asked = pack-done L a (length out) .0 done in
+      let wires : ℕ = wireCount n in
+      let asked = pack-done n a (length out) .0 done in
       let bits = asked .1 .1 .1 in
-      let whole : unpackAnswer L (packedBytes n (entry a)) (length room) ≡ Done =
-      unpack-done L (packedBytes n (entry a)) (length room) .1
-      (asked .0, (fits, (length-packed n (entry a), (spare-of-packed n (entry a) bits, refl)))) in
+      let whole : unpackAnswer n (packedBytes wires (entry a)) (length room) ≡ Done =
+      unpack-done n (packedBytes wires (entry a)) (length room) .1
+      (asked .0, (fits, (length-packed wires (entry a), (spare-of-packed wires (entry a) bits, refl)))) in
       subst
-      (λ q. (unpackAnswer L q (length room) ≡ Done) × (unpacks L q room ≡ entryBytes n (entry a)))
-      (sym (packs-done L a out done))
-      (whole, unpacks-done L (packedBytes n (entry a)) room whole ∙ unpacked-packed n (entry a) bits)
+      (λ q. (unpackAnswer n q (length room) ≡ Done) × (unpacks n q room ≡ entryBytes wires (entry a)))
+      (sym (packs-done n a out done))
+      (whole, unpacks-done n (packedBytes wires (entry a)) room whole ∙ unpacked-packed wires (entry a) bits)
 
-module _ (L : ℕ) (q out : List ℕ) (bytes : Bytes q) (done : unpackAnswer L q (length out) ≡ Done) where
-  pack-of-unpacked : (room : List ℕ) → packedLength (wireCount (8 * L)) ≤ length room
-      → (packAnswer L (unpacks L q out) (length room) ≡ Done) × (packs L (unpacks L q out) room ≡ q)
+module _ (n : ℕ) (q out : List ℕ) (bytes : Bytes q) (done : unpackAnswer n q (length out) ≡ Done) where
+  pack-of-unpacked : (room : List ℕ) → packedLength (wireCount n) ≤ length room
+      → (packAnswer n (unpacks n q out) (length room) ≡ Done) × (packs n (unpacks n q out) room ≡ q)
   pack-of-unpacked room fits =
-      let n : ℕ = wireCount (8 * L) in
-      let u = unpackedBytes n q in
-      let asked = unpack-done L q (length out) .0 done in
-      let bits : (w : ℕ) → w < n → entry u w < 2 =
-      λ w l. omega (arith, entry-of-unpacked n q w l, bit-of-bytes-lt q w) in
-      let whole : packAnswer L u (length room) ≡ Done =
-      pack-done L u (length room) .1 (asked .0, (fits, (length-unpacked n q, bits))) in
-      subst (λ b. (packAnswer L b (length room) ≡ Done) × (packs L b room ≡ q)) (sym (unpacks-done L q out done)) (
+      let wires : ℕ = wireCount n in
+      let u = unpackedBytes wires q in
+      let asked = unpack-done n q (length out) .0 done in
+      let bits : (w : ℕ) → w < wires → entry u w < 2 =
+      λ w l. omega (arith, entry-of-unpacked wires q w l, bit-of-bytes-lt q w) in
+      let whole : packAnswer n u (length room) ≡ Done =
+      pack-done n u (length room) .1 (asked .0, (fits, (length-unpacked wires q, bits))) in
+      subst (λ b. (packAnswer n b (length room) ≡ Done) × (packs n b room ≡ q)) (sym (unpacks-done n q out done)) (
         whole,
-        packs-done L u room whole
-            ∙ packed-known n (entry u) bits q bytes (asked .1 .1 .0) (asked .1 .1 .1 .0)
-            (λ w l. sym (entry-of-unpacked n q w l)),
+        packs-done n u room whole
+            ∙ packed-known wires (entry u) bits q bytes (asked .1 .1 .0) (asked .1 .1 .1 .0)
+            (λ w l. sym (entry-of-unpacked wires q w l)),
       )
 
-accepted-packs : (L : ℕ) (d a : List ℕ) (room : ℕ) → IsAccepted L d a → packedLength (wireCount (8 * L)) ≤ room
-    → packAnswer L a room ≡ Done
-accepted-packs L d a room accepted fits =
-    let passed = accepted-iff L d a .0 accepted .passed in
-    pack-done L a room .1 (
+accepted-packs : (n : ℕ) (d a : List ℕ) (room : ℕ) → IsAccepted n d a → packedLength (wireCount n) ≤ room
+    → packAnswer n a room ≡ Done
+accepted-packs n d a room accepted fits =
+    let passed = accepted-iff n d a .0 accepted .passed in
+    pack-done n a room .1 (
       passed .range,
       (
         fits,
         (
           passed .assignment-length,
           λ w l.
-              subst (λ x. x < 2) (sym (accepted-wires L d a accepted w l)) (wire-lt (8 * L) _ (λ k h. omega arith) w),
+              subst (λ x. x < 2) (sym (accepted-wires n d a accepted w l)) (wire-lt n _ (λ k h. omega arith) w),
         ),
       ),
     )
@@ -115,12 +116,12 @@ accepted-packs L d a room accepted fits =
 pub round-trip : RoundTrip
 round-trip =
     record {
-      unpacked = λ L a out room done fits. unpack-of-packed L a out done room fits;
-      packed = λ L q out room bytes done fits. pack-of-unpacked L q out bytes done room fits;
+      unpacked = λ n a out room done fits. unpack-of-packed n a out done room fits;
+      packed = λ n q out room bytes done fits. pack-of-unpacked n q out bytes done room fits;
       accepted = accepted-packs;
       checked =
-          λ L d a out room done fits.
-          let asked = pack-done L a (length out) .0 done in
-          ap (checkAnswer L d) (unpack-of-packed L a out done room fits .1)
-          ∙ check-entries L d a (asked .1 .1 .0) (asked .1 .1 .1);
+          λ n d a out room done fits.
+          let asked = pack-done n a (length out) .0 done in
+          ap (checkAnswer n d) (unpack-of-packed n a out done room fits .1)
+          ∙ check-entries n d a (asked .1 .1 .0) (asked .1 .1 .1);
     }

@@ -2,19 +2,18 @@
 -- that these and the bits behind them write; and one wire more is the highest bit of a byte of its own, whose other bits are spare.
 use mathlib.Core.List.{List, [], _∷_, _++_}
 use mathlib.Core.Path.{_≡_, _∙_, ap, ap₂, sym}
-use Prim.Native.Nat.{ℕ, _+_, _-_, _*_, _/_, _%_, _^_, _<_, _≤_}
+use Prim.Native.Nat.{ℕ, _+_, _-_, _*_, _/_, _%_, _<_, _≤_}
 use native.Mathlib.Nat.{sub-zero, zero-add}
 use native.Mathlib.Omega.{arith}
-use lib.ListN.{getD}
 use Rattle.circuit.specs.Wires.{wireCount}
-use Rattle.encoding.proofs.Bits.{bit-of-byte, number-cong, number-of-bits, number-split, number-zero}
+use Rattle.encoding.proofs.Bits.{number-split, number-zero}
 use Rattle.encoding.proofs.ByteBits.{bytes-of-bits-add, bytes-of-bits-congruent}
 use Rattle.encoding.proofs.Sequence.{beside-first, beside-then}
 use Rattle.encoding.proofs.WordBytes.{bytes-of-number}
-use Rattle.encoding.specs.Bits.{bitOfBytes, bytesOfBits, number}
+use Rattle.encoding.specs.Bits.{bytesOfBits, number}
 use Rattle.encoding.specs.Bytes.{highestFirst}
+use Rattle.encoding.specs.Packed.{packedBytes, packedLength}
 use Rattle.encoding.specs.Sequence.{beside, tab}
-use Rattle.packing.specs.Packed.{packedBytes, packedLength, spareBits}
 
 -- the wires of a record are pairs of words and one wire more
 pub one-over : (n : ℕ) → wireCount n % 64 ≡ 1
@@ -61,44 +60,30 @@ unfolding number
 first-bit b v e rest = number-split 1 7 b ∙ omega arith
 
 -- Words and one wire more.
-module _ (n : ℕ) (over : n % 32 ≡ 1) where
+module _ (wires : ℕ) (over : wires % 32 ≡ 1) where
   abbrev words : ℕ
-  words = n / 32
+  words = wires / 32
 
   -- the last byte has the last wire, and no other bit
-  last-byte : (s : ℕ → ℕ) → bytesOfBits 1 (λ k. beside n s (λ k. 0) (8 * (4 * words) + k)) ≡ 128 * s (n - 1) ∷ []
+  last-byte : (s : ℕ → ℕ) → bytesOfBits 1 (λ k. beside wires s (λ k. 0) (8 * (4 * words) + k)) ≡ 128 * s (wires - 1) ∷ []
   unfolding bytesOfBits tab
   last-byte s =
-      let b : ℕ → ℕ = λ i. beside n s (λ k. 0) (8 * (4 * words) + (8 * 0 + i)) in
-      let at : 8 * (4 * words) + (8 * 0 + 0) ≡ n - 1 = omega arith in
+      let b : ℕ → ℕ = λ i. beside wires s (λ k. 0) (8 * (4 * words) + (8 * 0 + i)) in
+      let at : 8 * (4 * words) + (8 * 0 + 0) ≡ wires - 1 = omega arith in
       ap (λ y. y ∷ [])
-      (first-bit b (s (n - 1)) (ap (beside n s (λ k. 0)) at ∙ beside-first n s (λ k. 0) (n - 1) (omega arith))
+      (first-bit b (s (wires - 1)) (ap (beside wires s (λ k. 0)) at ∙ beside-first wires s (λ k. 0) (wires - 1) (omega arith))
       (number-zero 7 _
       (λ i l.
-      let past : 8 * (4 * words) + (8 * 0 + (1 + i)) ≡ n + i = omega arith in
-      ap (beside n s (λ k. 0)) past ∙ beside-then n s (λ k. 0) i)))
+      let past : 8 * (4 * words) + (8 * 0 + (1 + i)) ≡ wires + i = omega arith in
+      ap (beside wires s (λ k. 0)) past ∙ beside-then wires s (λ k. 0) i)))
 
-  pub packed-words : (s : ℕ → ℕ) (x : ℕ) → x ≡ s (n - 1) → bytesOfBits (4 * words) s ++ (128 * x ∷ []) ≡ packedBytes n s
+  pub packed-words : (s : ℕ → ℕ) (x : ℕ) → x ≡ s (wires - 1) → bytesOfBits (4 * words) s ++ (128 * x ∷ []) ≡ packedBytes wires s
   unfolding packedBytes
   packed-words s x e =
-      let count : 4 * words + 1 ≡ packedLength n = omega arith in
-      let b : ℕ → ℕ = beside n s (λ k. 0) in
+      let count : 4 * words + 1 ≡ packedLength wires = omega arith in
+      let b : ℕ → ℕ = beside wires s (λ k. 0) in
       ap₂ _++_
-      (bytes-of-bits-congruent (4 * words) s b (λ k l. sym (beside-first n s (λ k. 0) k (omega arith))))
+      (bytes-of-bits-congruent (4 * words) s b (λ k l. sym (beside-first wires s (λ k. 0) k (omega arith))))
       (ap (λ v. 128 * v ∷ []) e ∙ sym (last-byte s))
       ∙ sym (bytes-of-bits-add (4 * words) 1 b)
       ∙ ap (λ m. bytesOfBits m b) count
-
-  pub spare-byte : (packed : List ℕ) → spareBits n packed ≡ getD packed (n / 8) 0 % 128
-  unfolding spareBits
-  spare-byte packed =
-      let count : 8 * packedLength n - n ≡ 7 = omega arith in
-      ap (λ m. number m (λ k. bitOfBytes packed (n + k))) count
-      ∙ number-cong 7 _ _
-      (λ i l.
-      let place : n + i ≡ 8 * (n / 8) + (1 + i) = omega arith in
-      let weight : 7 - (1 + i) ≡ 7 - 1 - i = omega arith in
-      ap (bitOfBytes packed) place
-      ∙ bit-of-byte packed (n / 8) (1 + i) (omega arith)
-      ∙ ap (λ k. getD packed (n / 8) 0 / 2 ^ k % 2) weight)
-      ∙ number-of-bits 7 (getD packed (n / 8) 0)

@@ -3,3 +3,4 @@ pub mod Packed
 pub mod PackedCheck
 pub mod RoundTrip
 pub mod Unpack
+pub mod WholeBytes

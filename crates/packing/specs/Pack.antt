@@ -7,30 +7,30 @@ use lib.ListN.{drop, length}
 use Rattle.assignment.specs.Assignment.{entry}
 use Rattle.circuit.specs.Wires.{wireCount}
 use Rattle.encoding.specs.Lowest.{lowestFailing}
-use Rattle.packing.specs.Packed.{packedBytes, packedLength}
+use Rattle.encoding.specs.Packed.{packedBytes, packedLength}
 use Rattle.refusal.specs.Refusals.{left}
 use Rattle.refusal.specs.declared.outcome.Outcome.the-variants.{Done, Refused}
 use Rattle.refusal.specs.declared.outcome.Outcome.{Outcome}
 use Rattle.refusal.specs.declared.outcome.Refusal.the-variants.{BufferTooShort, EntryNotBit, LengthAboveLimit, WrongLength}
-use Rattle.sm3.specs.Message.{longest}
+use Rattle.sm3.specs.Message.{mostBits}
 
 -- "10, in packing only, an entry reads neither 0 nor 1 (lowest wire returned)": of the m wires from k on
 unfoldable pub bitsAnswer : List ℕ → ℕ → ℕ → Outcome
 bitsAnswer assignment k m =
     lowestFailing (λ w. ltb (entry assignment w) 2) (λ w. Refused (EntryNotBit (record { 0 = w }))) Done k m
 
--- for records of `size` bytes, an assignment and a buffer of `room` bytes
+-- for records of n bits, an assignment and a buffer of `room` bytes
 unfoldable pub packAnswer : ℕ → List ℕ → ℕ → Outcome
-packAnswer size assignment room =
-    -- "2. The record length is above 1,015."
-    cond (ltb longest size) (Refused LengthAboveLimit)
+packAnswer n assignment room =
+    -- "2. The record length is above" 8,127
+    cond (ltb mostBits n) (Refused LengthAboveLimit)
     -- "From here refusal 4 also covers any other written buffer shorter than its result."
-    (cond (ltb room (packedLength (wireCount (8 * size)))) (Refused BufferTooShort)
+    (cond (ltb room (packedLength (wireCount n))) (Refused BufferTooShort)
     -- "6. An assignment of 8-byte entries handed over to be read is not exactly 8 × wires bytes."
-    (cond (not (eqb (length assignment) (8 * wireCount (8 * size)))) (Refused WrongLength)
-    (bitsAnswer assignment 0 (wireCount (8 * size)))))
+    (cond (not (eqb (length assignment) (8 * wireCount n))) (Refused WrongLength)
+    (bitsAnswer assignment 0 (wireCount n))))
 
 -- what is left in the buffer: the packed bytes and the bytes past them, which "keep their value"
 abbrev pub packLeft : Outcome → ℕ → List ℕ → List ℕ → List ℕ
-packLeft r size assignment out =
-    left r (packedBytes (wireCount (8 * size)) (entry assignment) ++ drop (packedLength (wireCount (8 * size))) out) out
+packLeft r n assignment out =
+    left r (packedBytes (wireCount n) (entry assignment) ++ drop (packedLength (wireCount n)) out) out

@@ -7,8 +7,8 @@ use lib.ListN.{length, take}
 use Rattle.assignment.specs.Assignment.{entry, entryBytes}
 use Rattle.circuit.specs.Wires.{wireCount}
 use Rattle.encoding.specs.Bytes.{Bytes}
+use Rattle.encoding.specs.Packed.{packedLength}
 use Rattle.packing.specs.Pack.{packAnswer, packLeft}
-use Rattle.packing.specs.Packed.{packedLength}
 use Rattle.packing.specs.Unpack.{unpackAnswer, unpackLeft}
 use Rattle.record.specs.Check.{checkAnswer}
 use Rattle.record.specs.Demand3.{IsAccepted}
@@ -16,23 +16,23 @@ use Rattle.refusal.specs.declared.outcome.Outcome.the-variants.{Done}
 
 -- what `pack` leaves at the front of a buffer that held `out`, and what `unpack` leaves there
 abbrev pub packs : ℕ → List ℕ → List ℕ → List ℕ
-packs L a out = take (packedLength (wireCount (8 * L))) (packLeft (packAnswer L a (length out)) L a out)
+packs n a out = take (packedLength (wireCount n)) (packLeft (packAnswer n a (length out)) n a out)
 
 abbrev pub unpacks : ℕ → List ℕ → List ℕ → List ℕ
-unpacks L p out = take (8 * wireCount (8 * L)) (unpackLeft (unpackAnswer L p (length out)) L p out)
+unpacks n p out = take (8 * wireCount n) (unpackLeft (unpackAnswer n p (length out)) n p out)
 
 pub record RoundTrip : Type 0 where
   -- "Unpacking what was packed returns each entry modulo p"
-  pub unpacked : (L : ℕ) (a out room : List ℕ) → packAnswer L a (length out) ≡ Done → 8 * wireCount (8 * L) ≤ length room
-      → (unpackAnswer L (packs L a out) (length room) ≡ Done)
-      × (unpacks L (packs L a out) room ≡ entryBytes (wireCount (8 * L)) (entry a))
+  pub unpacked : (n : ℕ) (a out room : List ℕ) → packAnswer n a (length out) ≡ Done → 8 * wireCount n ≤ length room
+      → (unpackAnswer n (packs n a out) (length room) ≡ Done)
+      × (unpacks n (packs n a out) room ≡ entryBytes (wireCount n) (entry a))
   -- "packing what was unpacked returns the bytes"
-  pub packed : (L : ℕ) (p out room : List ℕ) → Bytes p → unpackAnswer L p (length out) ≡ Done
-      → packedLength (wireCount (8 * L)) ≤ length room
-      → (packAnswer L (unpacks L p out) (length room) ≡ Done) × (packs L (unpacks L p out) room ≡ p)
+  pub packed : (n : ℕ) (p out room : List ℕ) → Bytes p → unpackAnswer n p (length out) ≡ Done
+      → packedLength (wireCount n) ≤ length room
+      → (packAnswer n (unpacks n p out) (length room) ≡ Done) × (packs n (unpacks n p out) room ≡ p)
   -- "Every accepted assignment packs."
-  pub accepted : (L : ℕ) (d a : List ℕ) (room : ℕ) → IsAccepted L d a → packedLength (wireCount (8 * L)) ≤ room
-      → packAnswer L a room ≡ Done
+  pub accepted : (n : ℕ) (d a : List ℕ) (room : ℕ) → IsAccepted n d a → packedLength (wireCount n) ≤ room
+      → packAnswer n a room ≡ Done
   -- the check of what was packed and unpacked is the check of its entries
-  pub checked : (L : ℕ) (d a out room : List ℕ) → packAnswer L a (length out) ≡ Done → 8 * wireCount (8 * L) ≤ length room
-      → checkAnswer L d (unpacks L (packs L a out) room) ≡ checkAnswer L d a
+  pub checked : (n : ℕ) (d a out room : List ℕ) → packAnswer n a (length out) ≡ Done → 8 * wireCount n ≤ length room
+      → checkAnswer n d (unpacks n (packs n a out) room) ≡ checkAnswer n d a

@@ -5,12 +5,13 @@ use Prim.Native.Nat.{ℕ, _*_}
 use lib.Dec.{eqb, ltb}
 use lib.ListN.{drop, length}
 use Rattle.circuit.specs.Wires.{wireCount}
-use Rattle.packing.specs.Packed.{packedLength, spareBits, unpackedBytes}
+use Rattle.encoding.specs.Packed.{packedLength, spareBits}
+use Rattle.packing.specs.Packed.{unpackedBytes}
 use Rattle.refusal.specs.Refusals.{left}
 use Rattle.refusal.specs.declared.outcome.Outcome.the-variants.{Done, Refused}
 use Rattle.refusal.specs.declared.outcome.Outcome.{Outcome}
 use Rattle.refusal.specs.declared.outcome.Refusal.the-variants.{BufferTooShort, LengthAboveLimit, SpareBit, WrongPackedLength}
-use Rattle.sm3.specs.Message.{longest}
+use Rattle.sm3.specs.Message.{mostBits}
 
 -- what is asked of the packed bytes of n wires, and then the answer `next`
 unfoldable pub packedAnswer : ℕ → List ℕ → Outcome → Outcome
@@ -20,16 +21,16 @@ packedAnswer n packed next =
     -- "12, a spare bit is set, after 11"
     (cond (not (eqb (spareBits n packed) 0)) (Refused SpareBit) next)
 
--- for records of `size` bytes, packed bytes and a buffer of `room` bytes
+-- for records of n bits, packed bytes and a buffer of `room` bytes
 unfoldable pub unpackAnswer : ℕ → List ℕ → ℕ → Outcome
-unpackAnswer size packed room =
-    -- "2. The record length is above 1,015."
-    cond (ltb longest size) (Refused LengthAboveLimit)
+unpackAnswer n packed room =
+    -- "2. The record length is above" 8,127
+    cond (ltb mostBits n) (Refused LengthAboveLimit)
     -- "4. The buffer to be written is shorter than .. 8 × wires for an assignment."
-    (cond (ltb room (8 * wireCount (8 * size))) (Refused BufferTooShort)
-    (packedAnswer (wireCount (8 * size)) packed Done))
+    (cond (ltb room (8 * wireCount n)) (Refused BufferTooShort)
+    (packedAnswer (wireCount n) packed Done))
 
 -- what is left in the buffer: the entries and the bytes past them, which "keep their value"
 abbrev pub unpackLeft : Outcome → ℕ → List ℕ → List ℕ → List ℕ
-unpackLeft r size packed out =
-    left r (unpackedBytes (wireCount (8 * size)) packed ++ drop (8 * wireCount (8 * size)) out) out
+unpackLeft r n packed out =
+    left r (unpackedBytes (wireCount n) packed ++ drop (8 * wireCount n) out) out

@@ -4,14 +4,14 @@ ghost use mathlib.Core.Path.{_≡_};
 ghost use Prim.Native.Nat.{ℕ, _+_, _-_, _*_, _/_, _%_, _<_, _≤_};
 ghost use lib.ListN.{length};
 ghost use Rattle.assignment.specs.Assignment.{entry};
-ghost use Rattle.circuit.specs.Ranges.{mostWires};
 ghost use Rattle.encoding.specs.Bits.{bytesOfBits, number};
+ghost use Rattle.encoding.specs.Packed.{packedBytes, packedLength};
 ghost use Rattle.encoding.specs.Written.{Written};
 ghost use Rattle.packing.specs.Pack.{bitsAnswer, packAnswer, packLeft};
-ghost use Rattle.packing.specs.Packed.{packedBytes, packedLength};
 ghost use Rattle.satisfaction.specs.Agrees.{Stand};
 use assignment::entry::read;
 use circuit::wire::wire_count;
+use encoding::packed::packed_length;
 use encoding::write::put_word;
 use refusal::numbers::WireNumber;
 use refusal::outcome::Outcome;
@@ -20,15 +20,7 @@ use satisfaction::word_read::WordRead;
 use satisfaction::word_read::number_from;
 use satisfaction::word_read::reduced_word;
 use satisfaction::word_read::seen_from;
-use sm3::message::LONGEST;
-
-// How many bytes so many wires are packed into.
-pub fn packed_length(wires: u64) -> u64
-    requires { ⌜ wires ≤ mostWires ⌝ }
-    ensures { λ r. ⌜ r ≡ packedLength wires ⌝ }
-{
-    (wires + 7) / 8
-}
+use sm3::message::MOST_BITS;
 
 // Refusal 10 for the lowest wire from `from` on and below `to` that reads neither 0 nor 1, if there is one.
 fn bits_between(assignment: &[u8], from: u64, to: u64) -> Outcome
@@ -108,15 +100,15 @@ fn put_packed(assignment: &[u8], wires: u64, standing: bool, out: &mut [u8])
     out[4 * words] = (128 * last) as u8;
 }
 
-// An assignment for records of `size` bytes, packed into the front of `out`.
-pub fn pack(size: u64, assignment: &[u8], out: &mut [u8]) -> Outcome
-    ensures { λ r. ⌜ r ≡ packAnswer size (now (assignment .entry)) (length (now (out .entry))) ⌝ }
-    ensures { λ r. ⌜ now (out .exit) ≡ packLeft r size (now (assignment .entry)) (now (out .entry)) ⌝ }
+// An assignment for records of so many bits, packed into the front of `out`.
+pub fn pack(bits: u64, assignment: &[u8], out: &mut [u8]) -> Outcome
+    ensures { λ r. ⌜ r ≡ packAnswer bits (now (assignment .entry)) (length (now (out .entry))) ⌝ }
+    ensures { λ r. ⌜ now (out .exit) ≡ packLeft r bits (now (assignment .entry)) (now (out .entry)) ⌝ }
 {
-    if LONGEST < size {
+    if MOST_BITS < bits {
         return Outcome::Refused(Refusal::LengthAboveLimit);
     }
-    let wires = wire_count(8 * size);
+    let wires = wire_count(bits);
     let room = packed_length(wires);
     let bytes = 8 * wires;
     if (out.len() as u64) < room {

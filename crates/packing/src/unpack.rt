@@ -5,16 +5,17 @@ ghost use lib.ListN.{length};
 ghost use Rattle.assignment.specs.Wrote.{Wrote};
 ghost use Rattle.encoding.specs.Bits.{bitOfBytes};
 ghost use Rattle.packing.specs.Unpack.{unpackAnswer, unpackLeft};
-use crate::pack::packed_length;
 use assignment::wires::put_entry;
 use assignment::wires::put_word;
 use circuit::wire::wire_count;
+use encoding::packed::packed_length;
+use encoding::packed::spare_bits;
 use encoding::read::bit_at;
 use encoding::read::word_at;
 use refusal::numbers::WireNumber;
 use refusal::outcome::Outcome;
 use refusal::outcome::Refusal;
-use sm3::message::LONGEST;
+use sm3::message::MOST_BITS;
 
 // The first entries of packed bytes: in each turn a word of their first half and one of the second, since two places of memory
 // are written sooner than one.
@@ -30,26 +31,25 @@ fn put_entries(packed: &[u8], half: usize, out: &mut [u8])
     }
 }
 
-// The entries of packed bytes for records of `size` bytes, into the front of `out`.
-pub fn unpack(size: u64, packed: &[u8], out: &mut [u8]) -> Outcome
-    ensures { λ r. ⌜ r ≡ unpackAnswer size (now (packed .entry)) (length (now (out .entry))) ⌝ }
-    ensures { λ r. ⌜ now (out .exit) ≡ unpackLeft r size (now (packed .entry)) (now (out .entry)) ⌝ }
+// The entries of packed bytes for records of so many bits, into the front of `out`.
+pub fn unpack(bits: u64, packed: &[u8], out: &mut [u8]) -> Outcome
+    ensures { λ r. ⌜ r ≡ unpackAnswer bits (now (packed .entry)) (length (now (out .entry))) ⌝ }
+    ensures { λ r. ⌜ now (out .exit) ≡ unpackLeft r bits (now (packed .entry)) (now (out .entry)) ⌝ }
 {
-    if LONGEST < size {
+    if MOST_BITS < bits {
         return Outcome::Refused(Refusal::LengthAboveLimit);
     }
-    let wires = wire_count(8 * size);
+    let wires = wire_count(bits);
     if (out.len() as u64) < 8 * wires {
         return Outcome::Refused(Refusal::BufferTooShort);
     }
     if packed.len() as u64 != packed_length(wires) {
         return Outcome::Refused(Refusal::WrongPackedLength);
     }
-    let half = (wires / 64) as usize;
-    if packed[8 * half] % 128 != 0 {
+    if spare_bits(wires, packed) != 0 {
         return Outcome::Refused(Refusal::SpareBit);
     }
-    put_entries(packed, half, out);
+    put_entries(packed, (wires / 64) as usize, out);
     put_entry(out, WireNumber(wires - 1), bit_at(packed, wires - 1));
     Outcome::Done
 }

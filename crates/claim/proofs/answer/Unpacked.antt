@@ -10,15 +10,15 @@ use Rattle.packing.specs.Packed.{unpackedBytes}
 use Rattle.packing.specs.Unpack.{unpackAnswer, unpackLeft}
 use Rattle.refusal.specs.declared.outcome.Outcome.the-variants.{Done}
 use Rattle.refusal.specs.declared.outcome.Outcome.{Outcome}
-use Rattle.sm3.specs.Message.{blocks, longest}
+use Rattle.sm3.specs.Message.{blocks, mostBits}
 
-pub most-bytes : (L : ℕ) → L ≤ longest → 8 * wireCount (8 * L) ≤ 2887688
+pub most-bytes : (n : ℕ) → n ≤ mostBits → 8 * wireCount n ≤ 2887688
 unfolding wireCount blocks
-most-bytes L range = omega arith
+most-bytes n range = omega arith
 
-pub front-unpacked : (L : ℕ) (p room after : List ℕ) (r : Outcome) (end : ℕ) → r ≡ unpackAnswer L p (length room)
-    → after ≡ unpackLeft r L p room → end ≡ 8 * wireCount (8 * L) → r ≡ Done → take end after ≡ unpackedBytes (wireCount (8 * L)) p
-front-unpacked L p room after r end answered left count done =
+pub front-unpacked : (n : ℕ) (p room after : List ℕ) (r : Outcome) (end : ℕ) → r ≡ unpackAnswer n p (length room)
+    → after ≡ unpackLeft r n p room → end ≡ 8 * wireCount n → r ≡ Done → take end after ≡ unpackedBytes (wireCount n) p
+front-unpacked n p room after r end answered left count done =
     ap₂ take count left
-    ∙ ap (λ r. take (8 * wireCount (8 * L)) (unpackLeft r L p room)) answered
-    ∙ unpacks-done L p room (sym answered ∙ done)
+    ∙ ap (λ r. take (8 * wireCount n) (unpackLeft r n p room)) answered
+    ∙ unpacks-done n p room (sym answered ∙ done)

@@ -1,6 +1,5 @@
 -- Refusal 10 is looked for from wire 0 on: where a wire reads as 0 or 1 the wires after it decide. So wires that stand as 0 and 1
 -- may be passed by.
-use mathlib.Core.Bool.{true}
 use mathlib.Core.List.{List}
 use mathlib.Core.Path.{_≡_}
 use Prim.Native.Nat.{ℕ, _+_, _-_, _≤_, _<_}
@@ -11,16 +10,10 @@ use Rattle.assignment.specs.Assignment.{entry}
 use Rattle.encoding.proofs.Lowest as failing
 use Rattle.packing.proofs.pack.StandingEntries.{stand-bit}
 use Rattle.packing.specs.Pack.{bitsAnswer}
+use Rattle.refusal.proofs.Tests.{refused-done}
 use Rattle.refusal.specs.declared.outcome.Outcome.the-variants.{Done, Refused}
 use Rattle.refusal.specs.declared.outcome.Refusal.the-variants.{EntryNotBit}
-use Rattle.refusal.specs.declared.outcome.Refusal.{Refusal}
 use Rattle.satisfaction.specs.Agrees.{Stand}
-
--- a refusal is not `Done`
-pub refused-done : (r : Refusal) → Refused r ≡ Done → ⊥
-refused-done r e =
-    let z : _≡_ {A = ℕ} 0 1 = cc in
-    omega arith
 
 apart : (w : ℕ) → Refused (EntryNotBit (record { 0 = w })) ≡ Done → ⊥
 apart w = refused-done _

@@ -16,8 +16,8 @@ use Rattle.claim.proofs.answer.answer_to.Tie as tie
 parse-requires : tie.Need-parse-requires
 parse-requires c κs = search needs
 
-enum-known-length : tie.Need-enum-known-length
-enum-known-length c = search needs
+enum-known-bits : tie.Need-enum-known-bits
+enum-known-bits c = search needs
 
 enum-told : tie.Need-enum-told
 enum-told c = search needs
@@ -30,8 +30,8 @@ returns c =
 
 -- what is known of a line that was read
 line : (c : tie.After-known-told)
-    → Claimed (c .before .before .before .before .before .before .args .input .now) (c .before .length .given .0 .0) (c .before .length .given .0 .1 .0)
-line c = claimed _ _ _ (sym (c .before .before .before .parse .ensures) ∙ c .before .length .given .1)
+    → Claimed (c .before .before .before .before .before .before .args .input .now) (c .before .bits .given .0 .0) (c .before .bits .given .0 .1 .0)
+line c = claimed _ _ _ (sym (c .before .before .before .parse .ensures) ∙ c .before .bits .given .1)
 
 slice-aggregate-put-bytes-of-hex : tie.Need-slice-aggregate-put-bytes-of-hex
 slice-aggregate-put-bytes-of-hex c = search needs
@@ -71,14 +71,14 @@ returns-2 c =
     (checked .check-packed .ensures
     ∙ ap₂ (packedCheckAnswer _) (checked .before .before .before .before .before .put-bytes-of-hex .ensures)
     (take-all _ _ (le-of-eq (length-drop _ s))))
-    ∙ sym (ap (λ r. answer.claimed r s) (sym (parsed .parse .ensures) ∙ told .before .length .given .1))
+    ∙ sym (ap (λ r. answer.claimed r s) (sym (parsed .parse .ensures) ∙ told .before .bits .given .1))
 
 pub answer-to-spec : {M : Type 1} → statement M
 answer-to-spec =
     tie.close
     (tie.spec
     parse-requires
-    enum-known-length
+    enum-known-bits
     enum-told
     returns
     slice-aggregate-put-bytes-of-hex

@@ -7,7 +7,7 @@ use lib.Seq.{length-take-le}
 use Rattle.claim.proofs.answer.Unpacked.{front-unpacked, most-bytes}
 use Rattle.packing.proofs.Answers.{check-refused, check-unpacked, unpack-done}
 use Rattle.record.specs.Check.{checkAnswer}
-use Rattle.sm3.specs.Message.{longest}
+use Rattle.sm3.specs.Message.{mostBits}
 use Rattle.claim.proofs.answer.check_packed.Statement.{statement}
 use Rattle.claim.proofs.answer.check_packed.Tie as tie
 
@@ -26,20 +26,17 @@ returns c =
     let start = unpacked .before .before .before .before .before in
     let a = start .args in
     sym
-    (check-refused (a .size) (a .digest .now) (a .packed .now) _ (λ range. omega (arith, most-bytes (a .size) range, start .pre)) _
+    (check-refused (a .bits) (a .digest .now) (a .packed .now) _ (λ range. omega (arith, most-bytes (a .bits) range, start .pre)) _
     (sym (unpacked .unpack .ensures .0) ∙ c .before .answer .given .1))
 
 enum-told : tie.Need-enum-told
 enum-told c = search needs
 
 -- past unpacking the length is in range
-range : (c : tie.After-enum-told) → c .before .before .before .before .before .before .before .before .before .args .size ≤ longest
+range : (c : tie.After-enum-told) → c .before .before .before .before .before .before .before .before .before .args .bits ≤ mostBits
 range c =
     let unpacked = c .before .before .before .before in
     unpack-done _ _ _ .0 (sym (unpacked .unpack .ensures .0) ∙ c .enum-told .given .1) .0
-
-mul-wire-count : tie.Need-mul-wire-count
-mul-wire-count c = omega (arith, range c)
 
 wire-count-requires : tie.Need-wire-count-requires
 wire-count-requires c κs = omega (arith, range c)
@@ -68,11 +65,11 @@ returns-2 c =
     let a = start .args in
     let done = sym (unpacked .unpack .ensures .0) ∙ told .enum-told .given .1 in
     c .check .ensures
-    ∙ ap (checkAnswer (a .size) (a .digest .now))
-    (front-unpacked (a .size) (a .packed .now) (a .room .now) _ _ _ (unpacked .unpack .ensures .0) (unpacked .unpack .ensures .1)
-    (ap (λ n. 8 * n) (counted .wire-count .ensures .0)) (told .enum-told .given .1))
+    ∙ ap (checkAnswer (a .bits) (a .digest .now))
+    (front-unpacked (a .bits) (a .packed .now) (a .room .now) _ _ _ (unpacked .unpack .ensures .0) (unpacked .unpack .ensures .1)
+    (ap (λ m. 8 * m) (counted .wire-count .ensures .0)) (told .enum-told .given .1))
     ∙ sym
-    (check-unpacked (a .size) (a .digest .now) (a .packed .now) _ (λ range. omega (arith, most-bytes (a .size) range, start .pre)) done)
+    (check-unpacked (a .bits) (a .digest .now) (a .packed .now) _ (λ range. omega (arith, most-bytes (a .bits) range, start .pre)) done)
 
 pub check-packed-spec : {M : Type 1} → statement M
 check-packed-spec =
@@ -83,7 +80,6 @@ check-packed-spec =
     same-length
     returns
     enum-told
-    mul-wire-count
     wire-count-requires
     mul-end
     slice-reshare-prefix-check

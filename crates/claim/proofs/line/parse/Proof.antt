@@ -37,8 +37,8 @@ module _ (s : List ℕ) where
 read-field-requires : tie.Need-read-field-requires
 read-field-requires c κs = search needs
 
-enum-known-length : tie.Need-enum-known-length
-enum-known-length c = search needs
+enum-known-bits : tie.Need-enum-known-bits
+enum-known-bits c = search needs
 
 enum-told : tie.Need-enum-told
 enum-told c = search needs
@@ -53,14 +53,14 @@ module _ (c : tie.After-known-told) where
   abbrev S : List ℕ
   S = c .before .before .before .before .before .args .s .now
 
-  abbrev Length : ℕ
-  Length = c .before .length .given .0 .0
+  abbrev Bits : ℕ
+  Bits = c .before .bits .given .0 .0
 
   abbrev At : ℕ
-  At = c .before .length .given .0 .1 .0
+  At = c .before .bits .given .0 .1 .0
 
-  field-read : fieldOf comma S ≡ Number Length At
-  field-read = sym (c .before .before .before .read-field .ensures) ∙ c .before .length .given .1
+  field-read : fieldOf comma S ≡ Number Bits At
+  field-read = sym (c .before .before .before .read-field .ensures) ∙ c .before .bits .given .1
 
 all-hex-requires : tie.Need-all-hex-requires
 all-hex-requires c κs = search needs
@@ -70,7 +70,7 @@ returns-2 c =
     let called = c .before in
     let past = called .before in
     sym
-    (no-digest (S past) (Length past) (At past) (field-read past)
+    (no-digest (S past) (Bits past) (At past) (field-read past)
     (sym (called .all-hex .ensures) ∙ not-true (called .all-hex .result) (c .if1 .taken)))
 
 -- after the digits
@@ -84,8 +84,8 @@ module _ (c : tie.Else1) where
   answer :
       (b : ℕ)
       → getD (S field-past) (At field-past + 64) 0 ≡ b
-      → parseOf (S field-past) ≡ cond (eqb b lineFeed) (Claim (Length field-past) (At field-past)) Malformed
-  answer = by-end (S field-past) (Length field-past) (At field-past) (field-read field-past) digits
+      → parseOf (S field-past) ≡ cond (eqb b lineFeed) (Claim (Bits field-past) (At field-past)) Malformed
+  answer = by-end (S field-past) (Bits field-past) (At field-past) (field-read field-past) digits
 
 add-end : tie.Need-add-end
 add-end c =
@@ -111,7 +111,7 @@ parse-spec =
     tie.close
     (tie.spec
     read-field-requires
-    enum-known-length
+    enum-known-bits
     enum-told
     returns
     all-hex-requires

@@ -7,12 +7,12 @@ use borrow.Author.Tests.{eq-eqb, le-ltb, lt-ltb, ne-eqb}
 use lib.ListN.{length}
 use Rattle.assignment.specs.Assignment.{entry}
 use Rattle.circuit.specs.Wires.{wireCount}
+use Rattle.encoding.proofs.PackedBits.{length-packed}
 use Rattle.encoding.proofs.Written.{written-as, written-front}
-use Rattle.packing.proofs.PackedBits.{length-packed}
+use Rattle.encoding.specs.Packed.{packedBytes, packedLength}
 use Rattle.packing.proofs.WordBytes.{one-over}
 use Rattle.packing.proofs.pack.EntriesAsked.{done-bits}
 use Rattle.packing.specs.Pack.{bitsAnswer, packAnswer}
-use Rattle.packing.specs.Packed.{packedBytes, packedLength}
 use denote.Ref.{now}
 use Rattle.packing.proofs.pack.pack.Statement.{statement}
 use Rattle.packing.proofs.pack.pack.Tie as tie
@@ -20,9 +20,6 @@ use Rattle.packing.proofs.pack.pack.Tie as tie
 returns : tie.Need-returns
 unfolding packAnswer
 returns c = (simp (lt-ltb _ _ (c .if1 .taken)), refl)
-
-mul-wire-count : tie.Need-mul-wire-count
-mul-wire-count c = search needs
 
 wire-count-requires : tie.Need-wire-count-requires
 wire-count-requires c κs = search needs
@@ -38,7 +35,7 @@ unfolding packAnswer
 returns-2 c =
     let tests = c .before .before .before in
     let a = tests .before .before .before .args in
-    let short : length (now (a .out)) < packedLength (wireCount (8 * a .size)) = omega arith in
+    let short : length (now (a .out)) < packedLength (wireCount (a .bits)) = omega arith in
     (simp (le-ltb _ _ (tests .if1 .left), lt-ltb _ _ short), refl)
 
 returns-3 : tie.Need-returns-3
@@ -47,9 +44,9 @@ returns-3 c =
     let counted = c .before .before .before .wire-count .ensures .0 in
     let tests = c .before .before .before .before in
     let a = tests .before .before .before .args in
-    let room : packedLength (wireCount (8 * a .size)) ≤ length (now (a .out)) = omega arith in
-    let wrong : length (now (a .assignment)) ≡ 8 * wireCount (8 * a .size) → ⊥ =
-    λ e. c .if3 .taken (e ∙ ap (λ n. 8 * n) (sym counted)) in
+    let room : packedLength (wireCount (a .bits)) ≤ length (now (a .out)) = omega arith in
+    let wrong : length (now (a .assignment)) ≡ 8 * wireCount (a .bits) → ⊥ =
+    λ e. c .if3 .taken (e ∙ ap (λ m. 8 * m) (sym counted)) in
     (simp (le-ltb _ _ (tests .if1 .left), le-ltb _ _ room, ne-eqb _ _ wrong), refl)
 
 words-stand-requires : tie.Need-words-stand-requires
@@ -69,8 +66,8 @@ returns-4 c =
     let counted = length-told .before .before .before .wire-count .ensures .0 in
     let tests = length-told .before .before .before .before in
     let a = tests .before .before .before .args in
-    let room : packedLength (wireCount (8 * a .size)) ≤ length (now (a .out)) = omega arith in
-    let long : length (now (a .assignment)) ≡ 8 * wireCount (8 * a .size) = length-told .if3 .left ∙ ap (λ n. 8 * n) counted in (
+    let room : packedLength (wireCount (a .bits)) ≤ length (now (a .out)) = omega arith in
+    let long : length (now (a .assignment)) ≡ 8 * wireCount (a .bits) = length-told .if3 .left ∙ ap (λ m. 8 * m) counted in (
       simp (le-ltb _ _ (tests .if1 .left), le-ltb _ _ room, eq-eqb _ _ long)
           (sym (c .before .answer .given .1) ∙ asked .bits-in-all .ensures ∙ ap (bitsAnswer (now (a .assignment)) 0) counted),
       refl,
@@ -84,7 +81,7 @@ put-packed-requires c κs =
     let asked = c .before .before .before in
     let counted = asked .before .before .before .before .before .wire-count .ensures .0 in
     let a = asked .before .before .before .before .before .before .before .before .before .args in (
-      omega (arith, one-over (8 * a .size)),
+      omega (arith, one-over (a .bits)),
       omega arith,
       omega arith,
       done-bits (now (a .assignment)) _ (sym (asked .bits-in-all .ensures) ∙ c .before .enum-told .given .1),
@@ -104,12 +101,12 @@ returns-5 c =
     let counted = length-told .before .before .before .wire-count .ensures .0 in
     let tests = length-told .before .before .before .before in
     let a = tests .before .before .before .args in
-    let n : ℕ = wireCount (8 * a .size) in
-    let room : packedLength n ≤ length (now (a .out)) = omega arith in
-    let long : length (now (a .assignment)) ≡ 8 * n = length-told .if3 .left ∙ ap (λ n. 8 * n) counted in (
+    let wires : ℕ = wireCount (a .bits) in
+    let room : packedLength wires ≤ length (now (a .out)) = omega arith in
+    let long : length (now (a .assignment)) ≡ 8 * wires = length-told .if3 .left ∙ ap (λ m. 8 * m) counted in (
       simp (le-ltb _ _ (tests .if1 .left), le-ltb _ _ room, eq-eqb _ _ long)
           (sym (told .enum-told .given .1) ∙ asked .bits-in-all .ensures ∙ ap (bitsAnswer (now (a .assignment)) 0) counted),
-      written-front (packedLength n) (length-packed n (entry (now (a .assignment)))) room
+      written-front (packedLength wires) (length-packed wires (entry (now (a .assignment)))) room
           (written-as (ap (λ m. packedBytes m (entry (now (a .assignment)))) counted) (put .put-packed .ensures)),
     )
 
@@ -118,7 +115,6 @@ pack-spec =
     tie.close
     (tie.spec
     returns
-    mul-wire-count
     wire-count-requires
     packed-length-requires
     mul-bytes
