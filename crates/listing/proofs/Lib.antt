@@ -5,3 +5,4 @@ pub mod LineRight
 pub mod Lines
 pub mod Names
 pub mod Requests
+pub mod WholeBytes

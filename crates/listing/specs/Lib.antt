@@ -6,3 +6,4 @@ pub mod Progress
 pub mod Request
 pub mod Rows
 pub mod Steps
+pub mod WholeBytes

@@ -9,14 +9,14 @@ use Rattle.text.specs.Text.{comma, lineFeed}
 use Rattle.listing.specs.declared.line.Parsed.{Parsed}
 use Rattle.listing.specs.declared.line.Parsed.the-variants.{Numbers, Malformed}
 
--- the line of three numbers
+-- the line that asks for h rows from row f on, of a record of n bits
 unfoldable pub line : ℕ → ℕ → ℕ → List ℕ
-line l f h = field l comma ++ field f comma ++ field h lineFeed
+line n f h = field n comma ++ field f comma ++ field h lineFeed
 
--- a line that is not refused: the numbers have at most 9 digits. `parseOf`, below, finds them: it gives l, f and h exactly
--- if `Right s l f h` (`parse-right` of proofs/LineRight), and `Malformed` exactly if there are none (`parse-wrong`)
+-- a line that is not refused: the numbers have at most 9 digits. `parseOf`, below, finds them: it gives n, f and h exactly
+-- if `Right s n f h` (`parse-right` of proofs/LineRight), and `Malformed` exactly if there are none (`parse-wrong`)
 abbrev pub Right : List ℕ → ℕ → ℕ → ℕ → Type 0
-Right s l f h = (l < 1000000000) × (f < 1000000000) × (h < 1000000000) × (s ≡ line l f h)
+Right s n f h = (n < 1000000000) × (f < 1000000000) × (h < 1000000000) × (s ≡ line n f h)
 
 abbrev pub ended : List ℕ → Parsed → Parsed
 ended [] r = r
@@ -24,7 +24,7 @@ ended (c ∷ s) r = Malformed
 
 unfoldable pub parseOf : List ℕ → Parsed
 parseOf s =
-    after Malformed (fieldOf comma s) s λ l _ s₁.
+    after Malformed (fieldOf comma s) s λ n _ s₁.
     after Malformed (fieldOf comma s₁) s₁ λ f _ s₂.
     after Malformed (fieldOf lineFeed s₂) s₂ λ h _ s₃.
-    ended s₃ (Numbers l f h)
+    ended s₃ (Numbers n f h)

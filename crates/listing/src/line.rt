@@ -1,4 +1,4 @@
-// The line that asks for rows: `length,first,how many` and a line feed.
+// The line that asks for rows, `length,first,how many` and a line feed, the length in bits.
 ghost use mathlib.Core.Path.{_≡_};
 ghost use Rattle.listing.specs.Line.{parseOf};
 use text::field::Field;
@@ -7,7 +7,7 @@ use text::field::read_field;
 // What a line says.
 pub enum Parsed {
     // Three numbers below 1,000,000,000.
-    Numbers { length: u64, first: u64, many: u64 },
+    Numbers { bits: u64, first: u64, many: u64 },
     // It is no such line.
     Malformed,
 }
@@ -17,7 +17,7 @@ pub fn parse(s: &[u8]) -> Parsed
     ensures { λ r. ⌜ r ≡ parseOf (now (s .entry)) ⌝ }
 {
     let Field::Number {
-        value: length,
+        value: bits,
         bytes: a,
     } = read_field(s, 0, b',')
     else {
@@ -40,9 +40,5 @@ pub fn parse(s: &[u8]) -> Parsed
     if a + b + c < s.len() {
         return Parsed::Malformed;
     }
-    Parsed::Numbers {
-        length,
-        first,
-        many,
-    }
+    Parsed::Numbers { bits, first, many }
 }

@@ -7,7 +7,7 @@ use circuit::place::row_count;
 use refusal::numbers::RowNumber;
 use refusal::outcome::Refusal;
 use refusal::outcome::number_of;
-use sm3::message::LONGEST;
+use sm3::message::MOST_BITS;
 
 // What a line asks for.
 pub enum Request {
@@ -27,18 +27,12 @@ pub enum Request {
 pub fn request_of(line: &[u8]) -> Request
     ensures { λ r. ⌜ r ≡ requestOf (now (line .entry)) ⌝ }
 {
-    let Parsed::Numbers {
-        length,
-        first,
-        many,
-    } = parse(line)
-    else {
+    let Parsed::Numbers { bits, first, many } = parse(line) else {
         return Request::BadLine;
     };
-    if LONGEST < length {
+    if MOST_BITS < bits {
         return Request::Refused(Refusal::LengthAboveLimit);
     }
-    let bits = 8 * length;
     if row_count(bits) < first + many {
         return Request::Refused(Refusal::RowOutOfRange);
     }

@@ -17,18 +17,18 @@ use Rattle.listing.proofs.line.parse.Tie as tie
 
 -- the answer, by how far the line can be read
 module _ (s : List ℕ) where
-  no-length : fieldOf comma s ≡ Wrong → parseOf s ≡ Malformed
+  no-bits : fieldOf comma s ≡ Wrong → parseOf s ≡ Malformed
   unfolding parseOf
-  no-length e = simp e
+  no-bits e = simp e
 
-  module _ (l a : ℕ) (first : fieldOf comma s ≡ Number l a) where
+  module _ (n a : ℕ) (first : fieldOf comma s ≡ Number n a) where
     no-first : fieldOf comma (drop a s) ≡ Wrong → parseOf s ≡ Malformed
     unfolding parseOf
     no-first e = simp (first, e)
 
     module _ (f b : ℕ) (second : fieldOf comma (drop a s) ≡ Number f b) where
       within-two : a + b ≤ length s
-      within-two = omega (arith, field-within comma s l a first, field-within comma (drop a s) f b second, length-drop a s)
+      within-two = omega (arith, field-within comma s n a first, field-within comma (drop a s) f b second, length-drop a s)
 
       no-many : fieldOf lineFeed (drop (a + b) s) ≡ Wrong → parseOf s ≡ Malformed
       unfolding parseOf
@@ -38,23 +38,23 @@ module _ (s : List ℕ) where
         within-three : a + b + c ≤ length s
         within-three = omega (arith, within-two, field-within lineFeed (drop (a + b) s) h c third, length-drop (a + b) s)
 
-        three-read : parseOf s ≡ ended (drop (a + b + c) s) (Numbers l f h)
+        three-read : parseOf s ≡ ended (drop (a + b + c) s) (Numbers n f h)
         unfolding parseOf
         three-read = simp (first, second, drop-drop, third)
 
         more-after : a + b + c < length s → parseOf s ≡ Malformed
         more-after more =
-            three-read ∙ ap (λ (t : List ℕ). ended t (Numbers l f h)) (drop-cons s (a + b + c) 0 more)
+            three-read ∙ ap (λ (t : List ℕ). ended t (Numbers n f h)) (drop-cons s (a + b + c) 0 more)
 
-        none-after : length s ≤ a + b + c → parseOf s ≡ Numbers l f h
+        none-after : length s ≤ a + b + c → parseOf s ≡ Numbers n f h
         none-after end =
-            three-read ∙ ap (λ (t : List ℕ). ended t (Numbers l f h)) (drop-of-length-le s end)
+            three-read ∙ ap (λ (t : List ℕ). ended t (Numbers n f h)) (drop-of-length-le s end)
 
 read-field-requires : tie.Need-read-field-requires
 read-field-requires c κs = search needs
 
-enum-known-length : tie.Need-enum-known-length
-enum-known-length c = search needs
+enum-known-bits : tie.Need-enum-known-bits
+enum-known-bits c = search needs
 
 enum-told : tie.Need-enum-told
 enum-told c = search needs
@@ -62,7 +62,7 @@ enum-told c = search needs
 returns : tie.Need-returns
 returns c =
     let read = c .before .before in
-    sym (no-length (read .before .before .args .s .now) (sym (read .read-field .ensures) ∙ c .enum-told .given .1))
+    sym (no-bits (read .before .before .args .s .now) (sym (read .read-field .ensures) ∙ c .enum-told .given .1))
 
 -- after the first field
 abbrev Line : tie.After-known-told → List ℕ
@@ -70,8 +70,8 @@ Line c = c .before .before .before .before .before .args .s .now
 
 first :
     (c : tie.After-known-told)
-    → fieldOf comma (Line c) ≡ Number (c .before .length .given .0 .0) (c .before .length .given .0 .1 .0)
-first c = sym (c .before .before .before .read-field .ensures) ∙ c .before .length .given .1
+    → fieldOf comma (Line c) ≡ Number (c .before .bits .given .0 .0) (c .before .bits .given .0 .1 .0)
+first c = sym (c .before .before .before .read-field .ensures) ∙ c .before .bits .given .1
 
 read-field-requires-2 : tie.Need-read-field-requires-2
 read-field-requires-2 c κs = search needs
@@ -93,7 +93,7 @@ past-first c = c .before .before .before .before
 
 second :
     (c : tie.After-known-told2)
-    → fieldOf comma (drop (past-first c .before .length .given .0 .1 .0) (Line (past-first c)))
+    → fieldOf comma (drop (past-first c .before .bits .given .0 .1 .0) (Line (past-first c)))
     ≡ Number (c .before .first .given .0 .0) (c .before .first .given .0 .1 .0)
 second c = sym (c .before .before .before .read-field2 .ensures) ∙ c .before .first .given .1
 
@@ -127,7 +127,7 @@ third :
     (c : tie.After-known-told3)
     → fieldOf lineFeed
     (drop
-    (past-first (past-second c) .before .length .given .0 .1 .0 + past-second c .before .first .given .0 .1 .0)
+    (past-first (past-second c) .before .bits .given .0 .1 .0 + past-second c .before .first .given .0 .1 .0)
     (Line (past-first (past-second c))))
     ≡ Number (c .before .many .given .0 .0) (c .before .many .given .0 .1 .0)
 third c = sym (c .before .before .before .read-field3 .ensures) ∙ c .before .many .given .1
@@ -159,7 +159,7 @@ parse-spec =
     tie.close
     (tie.spec
     read-field-requires
-    enum-known-length
+    enum-known-bits
     enum-told
     returns
     read-field-requires-2

@@ -15,8 +15,8 @@ use Rattle.listing.proofs.request.request_of.Tie as tie
 parse-requires : tie.Need-parse-requires
 parse-requires c κs = search needs
 
-enum-known-length : tie.Need-enum-known-length
-enum-known-length c = search needs
+enum-known-bits : tie.Need-enum-known-bits
+enum-known-bits c = search needs
 
 enum-told : tie.Need-enum-told
 enum-told c = search needs
@@ -32,14 +32,11 @@ Line c = c .before .before .before .before .before .args .line .now
 numbers :
     (c : tie.After-known-told)
     → parseOf (Line c)
-    ≡ Numbers (c .before .length .given .0 .0) (c .before .length .given .0 .1 .0) (c .before .length .given .0 .1 .1 .0)
-numbers c = sym (c .before .before .before .parse .ensures) ∙ c .before .length .given .1
+    ≡ Numbers (c .before .bits .given .0 .0) (c .before .bits .given .0 .1 .0) (c .before .bits .given .0 .1 .1 .0)
+numbers c = sym (c .before .before .before .parse .ensures) ∙ c .before .bits .given .1
 
 returns-2 : tie.Need-returns-2
 returns-2 c = sym (too-long (Line (c .before)) _ _ _ (numbers (c .before)) (c .if1 .taken))
-
-mul-bits : tie.Need-mul-bits
-mul-bits c = search needs
 
 row-count-requires : tie.Need-row-count-requires
 row-count-requires c κs = search needs
@@ -64,11 +61,10 @@ request-of-spec =
     tie.close
     (tie.spec
     parse-requires
-    enum-known-length
+    enum-known-bits
     enum-told
     returns
     returns-2
-    mul-bits
     row-count-requires
     add-if2
     returns-3
