@@ -15,9 +15,9 @@ use Rattle.circuit.specs.Places.{rowCount}
 use Rattle.circuit.specs.Wires.{wireCount}
 use Rattle.encoding.proofs.Lowest.{by-lowest}
 use Rattle.encoding.specs.Bits.{bitOfBytes}
+use Rattle.encoding.specs.Packed.{packedLength, spareBits}
 use Rattle.forms.specs.Rows.{terms}
 use Rattle.packing.specs.Pack.{bitsAnswer, packAnswer}
-use Rattle.packing.specs.Packed.{packedLength, spareBits}
 use Rattle.packing.specs.Unpack.{packedAnswer, unpackAnswer}
 use Rattle.record.specs.Check.{afterRows, checkAnswer, same}
 use Rattle.record.specs.Produce.{produceAnswer}
@@ -27,12 +27,13 @@ use Rattle.refusal.specs.Packing.{above}
 use Rattle.refusal.specs.Refusals.{outcomeValues, refusalValues}
 use Rattle.refusal.specs.declared.outcome.Outcome.the-variants.{Done, Refused}
 use Rattle.refusal.specs.declared.outcome.Outcome.{Outcome}
-use Rattle.refusal.specs.declared.outcome.Refusal.the-variants.{BufferTooShort, LengthAboveLimit}
+use Rattle.refusal.specs.declared.outcome.Refusal.the-variants.{BufferTooShort}
 use Rattle.refusal.specs.declared.outcome.Refusal.{Refusal}
 use Rattle.satisfaction.specs.Lowest.{lowest}
 use Rattle.satisfaction.specs.declared.rows_check.Verdict.the-variants.{AllSatisfied}
 use Rattle.sm3.specs.Digest.{digestAnswer}
-use Rattle.sm3.specs.Message.{blocks, longest}
+use Rattle.sm3.specs.Handed.{handedAnswer}
+use Rattle.sm3.specs.Message.{blocks, mostBits}
 use Rattle.sm3rows.specs.Small.{SmallRow}
 
 -- the values of an answer have room
@@ -51,70 +52,79 @@ tested : {A : Type 0} (P : A → Type 0) (t : Bool) {x y : A} → P x → (t ≡
 tested P true px py = px
 tested P false px py = py refl
 
--- the two tests of an operation that takes a record and writes a buffer
-two-tests : (s t : Bool) → Small (cond s (Refused LengthAboveLimit) (cond t (Refused BufferTooShort) Done))
-two-tests s t = tested Small s (bare refl) (λ _. tested Small t (bare refl) (λ _. done-small))
+-- the tests of a record as it is handed over
+handed-small : (n : ℕ) (r : List ℕ) (next : Outcome) → Small next → Small (handedAnswer n r next)
+unfolding handedAnswer
+handed-small n r next small =
+    tested Small (ltb mostBits n) (bare refl)
+    (λ _.
+    tested Small (not (eqb (length r) (packedLength n))) (bare refl)
+    (λ _. tested Small (not (eqb (spareBits n r) 0)) (bare refl) (λ _. small)))
 
-pub digest-small : (size room : ℕ) → Small (digestAnswer size room)
-digest-small size room = two-tests (ltb longest size) (ltb room 32)
+-- .. and of the buffer
+room-small : (t : Bool) → Small (cond t (Refused BufferTooShort) Done)
+room-small t = tested Small t (bare refl) (λ _. done-small)
 
-pub produce-small : (size room : ℕ) → Small (produceAnswer size room)
-produce-small size room = two-tests (ltb longest size) (ltb room (8 * wireCount (8 * size)))
+pub digest-small : (n : ℕ) (r : List ℕ) (room : ℕ) → Small (digestAnswer n r room)
+digest-small n r room = handed-small n r _ (room-small (ltb room 32))
 
-counts-small : (size k : ℕ) → k < rowCount (8 * size) → SmallRow (counted (rowAt (8 * size) k))
+pub produce-small : (n : ℕ) (r : List ℕ) (room : ℕ) → Small (produceAnswer n r room)
+produce-small n r room = handed-small n r _ (room-small (ltb room (8 * wireCount n)))
+
+counts-small : (n k : ℕ) → k < rowCount n → SmallRow (counted (rowAt n k))
 unfolding counted terms
-counts-small size k below =
-    let few = simp length-append at (shape (8 * size) k below .few) in
+counts-small n k below =
+    let few = simp length-append at (shape n k below .few) in
     (omega arith, omega arith, omega arith)
 
-pub row-small : (size k room : ℕ) → SmallRow (rowAnswer size k room)
+pub row-small : (n k room : ℕ) → SmallRow (rowAnswer n k room)
 unfolding rowAnswer
-row-small size k room =
-    tested SmallRow (ltb longest size) (lit< tt)
+row-small n k room =
+    tested SmallRow (ltb mostBits n) (lit< tt)
     (λ _.
-    tested SmallRow (leb (rowCount (8 * size)) k) (lit< tt)
-    (λ e. tested SmallRow (ltb room rowBytes) (lit< tt) (λ _. counts-small size k (leb-false (rowCount (8 * size)) k e))))
+    tested SmallRow (leb (rowCount n) k) (lit< tt)
+    (λ e. tested SmallRow (ltb room rowBytes) (lit< tt) (λ _. counts-small n k (leb-false (rowCount n) k e))))
 
-rows-small : (L : ℕ) (a : ℕ → ℕ) → L ≤ longest → Small (afterRows (lowest a (rowAt (8 * L)) 0 (rowCount (8 * L))))
+rows-small : (n : ℕ) (a : ℕ → ℕ) → n ≤ mostBits → Small (afterRows (lowest a (rowAt n) 0 (rowCount n)))
 unfolding lowest rowCount blocks
-rows-small L a range =
-    by-lowest _ _ (λ v. Small (afterRows v)) AllSatisfied 0 (rowCount (8 * L)) (λ _. done-small)
+rows-small n a range =
+    by-lowest _ _ (λ v. Small (afterRows v)) AllSatisfied 0 (rowCount n) (λ _. done-small)
     (λ j low. record { room = omega (arith, low .below) })
 
-pub check-small : (L : ℕ) (d a : List ℕ) → Small (checkAnswer L d a)
+pub check-small : (n : ℕ) (d a : List ℕ) → Small (checkAnswer n d a)
 unfolding checkAnswer
-check-small L d a =
-    tested Small (ltb longest L) (bare refl)
+check-small n d a =
+    tested Small (ltb mostBits n) (bare refl)
     (λ e.
     tested Small (not (eqb (length d) 32)) (bare refl)
     (λ _.
-    tested Small (not (eqb (length a) (8 * wireCount (8 * L)))) (bare refl)
+    tested Small (not (eqb (length a) (8 * wireCount n))) (bare refl)
     (λ _.
     tested Small (not (eqb (entry a 0) 1)) (bare refl)
     (λ _.
     tested Small (not (same 256 (λ k. entry a (1 + k)) (bitOfBytes d))) (bare refl)
-    (λ _. rows-small L (entry a) (ltb-false longest L e))))))
+    (λ _. rows-small n (entry a) (ltb-false mostBits n e))))))
 
-bits-small : (L : ℕ) (a : List ℕ) → L ≤ longest → Small (bitsAnswer a 0 (wireCount (8 * L)))
+bits-small : (n : ℕ) (a : List ℕ) → n ≤ mostBits → Small (bitsAnswer a 0 (wireCount n))
 unfolding bitsAnswer wireCount blocks
-bits-small L a range =
-    by-lowest _ _ Small Done 0 (wireCount (8 * L)) (λ _. done-small) (λ j low. record { room = omega (arith, low .below) })
+bits-small n a range =
+    by-lowest _ _ Small Done 0 (wireCount n) (λ _. done-small) (λ j low. record { room = omega (arith, low .below) })
 
-pub pack-small : (L : ℕ) (a : List ℕ) (room : ℕ) → Small (packAnswer L a room)
+pub pack-small : (n : ℕ) (a : List ℕ) (room : ℕ) → Small (packAnswer n a room)
 unfolding packAnswer
-pack-small L a room =
-    tested Small (ltb longest L) (bare refl)
+pack-small n a room =
+    tested Small (ltb mostBits n) (bare refl)
     (λ e.
-    tested Small (ltb room (packedLength (wireCount (8 * L)))) (bare refl)
+    tested Small (ltb room (packedLength (wireCount n))) (bare refl)
     (λ _.
-    tested Small (not (eqb (length a) (8 * wireCount (8 * L)))) (bare refl) (λ _. bits-small L a (ltb-false longest L e))))
+    tested Small (not (eqb (length a) (8 * wireCount n))) (bare refl) (λ _. bits-small n a (ltb-false mostBits n e))))
 
-pub unpack-small : (L : ℕ) (p : List ℕ) (room : ℕ) → Small (unpackAnswer L p room)
+pub unpack-small : (n : ℕ) (p : List ℕ) (room : ℕ) → Small (unpackAnswer n p room)
 unfolding unpackAnswer packedAnswer
-unpack-small L p room =
-    tested Small (ltb longest L) (bare refl)
+unpack-small n p room =
+    tested Small (ltb mostBits n) (bare refl)
     (λ _.
-    tested Small (ltb room (8 * wireCount (8 * L))) (bare refl)
+    tested Small (ltb room (8 * wireCount n)) (bare refl)
     (λ _.
-    tested Small (not (eqb (length p) (packedLength (wireCount (8 * L))))) (bare refl)
-    (λ _. tested Small (not (eqb (spareBits (wireCount (8 * L)) p) 0)) (bare refl) (λ _. done-small))))
+    tested Small (not (eqb (length p) (packedLength (wireCount n)))) (bare refl)
+    (λ _. tested Small (not (eqb (spareBits (wireCount n) p) 0)) (bare refl) (λ _. done-small))))

@@ -27,55 +27,55 @@ fn pack_row(answer: RowAnswer) -> u64
     }
 }
 
-// The digest of a record, into the first 32 bytes of `out`.
+// The digest of a record of so many bits, into the first 32 bytes of `out`.
 #[no_mangle]
-pub extern "C" fn sm3rows_digest(bytes: &[u8], out: &mut [u8]) -> u64
-    ensures { λ r. ⌜ r ≡ packedOutcome (digestAnswer (length (now (bytes .entry))) (length (now (out .entry)))) ⌝ }
-    ensures { λ r. ⌜ now (out .exit) ≡ digestLeft (digestAnswer (length (now (bytes .entry))) (length (now (out .entry)))) (now (bytes .entry)) (now (out .entry)) ⌝ }
+pub extern "C" fn sm3rows_digest(bits: u64, bytes: &[u8], out: &mut [u8]) -> u64
+    ensures { λ r. ⌜ r ≡ packedOutcome (digestAnswer bits (now (bytes .entry)) (length (now (out .entry)))) ⌝ }
+    ensures { λ r. ⌜ now (out .exit) ≡ digestLeft (digestAnswer bits (now (bytes .entry)) (length (now (out .entry)))) bits (now (bytes .entry)) (now (out .entry)) ⌝ }
 {
-    pack_outcome(sm3::digest::digest(bytes, out))
+    pack_outcome(sm3::digest::digest(bits, bytes, out))
 }
 
-// One row by its number, for a record of `size` bytes, into the front of `out`.
+// One row by its number, for a record of so many bits, into the front of `out`.
 #[no_mangle]
-pub extern "C" fn sm3rows_row(size: u64, row: u64, out: &mut [u8]) -> u64
-    ensures { λ r. ⌜ r ≡ packedRow (rowAnswer size row (length (now (out .entry)))) ⌝ }
-    ensures { λ r. ⌜ now (out .exit) ≡ rowLeft (rowAnswer size row (length (now (out .entry)))) size row (now (out .entry)) ⌝ }
+pub extern "C" fn sm3rows_row(bits: u64, row: u64, out: &mut [u8]) -> u64
+    ensures { λ r. ⌜ r ≡ packedRow (rowAnswer bits row (length (now (out .entry)))) ⌝ }
+    ensures { λ r. ⌜ now (out .exit) ≡ rowLeft (rowAnswer bits row (length (now (out .entry)))) bits row (now (out .entry)) ⌝ }
 {
-    pack_row(record::row::row(size, RowNumber(row), out))
+    pack_row(record::row::row(bits, RowNumber(row), out))
 }
 
-// The whole assignment of a record, into the front of `out`.
+// The whole assignment of a record of so many bits, into the front of `out`.
 #[no_mangle]
-pub extern "C" fn sm3rows_produce(bytes: &[u8], out: &mut [u8]) -> u64
-    ensures { λ r. ⌜ r ≡ packedOutcome (produceAnswer (length (now (bytes .entry))) (length (now (out .entry)))) ⌝ }
-    ensures { λ r. ⌜ now (out .exit) ≡ produceLeft (produceAnswer (length (now (bytes .entry))) (length (now (out .entry)))) (now (bytes .entry)) (now (out .entry)) ⌝ }
+pub extern "C" fn sm3rows_produce(bits: u64, bytes: &[u8], out: &mut [u8]) -> u64
+    ensures { λ r. ⌜ r ≡ packedOutcome (produceAnswer bits (now (bytes .entry)) (length (now (out .entry)))) ⌝ }
+    ensures { λ r. ⌜ now (out .exit) ≡ produceLeft (produceAnswer bits (now (bytes .entry)) (length (now (out .entry)))) bits (now (bytes .entry)) (now (out .entry)) ⌝ }
 {
-    pack_outcome(record::produce::produce(bytes, out))
+    pack_outcome(record::produce::produce(bits, bytes, out))
 }
 
-// The check of an assignment for a record of `size` bytes against a digest.
+// The check of an assignment for a record of so many bits against a digest.
 #[no_mangle]
-pub extern "C" fn sm3rows_check(size: u64, digest: &[u8], assignment: &[u8]) -> u64
-    ensures { λ r. ⌜ r ≡ packedOutcome (checkAnswer size (now (digest .entry)) (now (assignment .entry))) ⌝ }
+pub extern "C" fn sm3rows_check(bits: u64, digest: &[u8], assignment: &[u8]) -> u64
+    ensures { λ r. ⌜ r ≡ packedOutcome (checkAnswer bits (now (digest .entry)) (now (assignment .entry))) ⌝ }
 {
-    pack_outcome(record::check::check(size, digest, assignment))
+    pack_outcome(record::check::check(bits, digest, assignment))
 }
 
-// An assignment for records of `size` bytes, packed a bit a wire into the front of `out`.
+// An assignment for records of so many bits, packed a bit a wire into the front of `out`.
 #[no_mangle]
-pub extern "C" fn sm3rows_pack(size: u64, assignment: &[u8], out: &mut [u8]) -> u64
-    ensures { λ r. ⌜ r ≡ packedOutcome (packAnswer size (now (assignment .entry)) (length (now (out .entry)))) ⌝ }
-    ensures { λ r. ⌜ now (out .exit) ≡ packLeft (packAnswer size (now (assignment .entry)) (length (now (out .entry)))) size (now (assignment .entry)) (now (out .entry)) ⌝ }
+pub extern "C" fn sm3rows_pack(bits: u64, assignment: &[u8], out: &mut [u8]) -> u64
+    ensures { λ r. ⌜ r ≡ packedOutcome (packAnswer bits (now (assignment .entry)) (length (now (out .entry)))) ⌝ }
+    ensures { λ r. ⌜ now (out .exit) ≡ packLeft (packAnswer bits (now (assignment .entry)) (length (now (out .entry)))) bits (now (assignment .entry)) (now (out .entry)) ⌝ }
 {
-    pack_outcome(packing::pack::pack(size, assignment, out))
+    pack_outcome(packing::pack::pack(bits, assignment, out))
 }
 
-// Packed bytes for records of `size` bytes as 8-byte entries, into the front of `out`.
+// Packed bytes for records of so many bits as 8-byte entries, into the front of `out`.
 #[no_mangle]
-pub extern "C" fn sm3rows_unpack(size: u64, packed: &[u8], out: &mut [u8]) -> u64
-    ensures { λ r. ⌜ r ≡ packedOutcome (unpackAnswer size (now (packed .entry)) (length (now (out .entry)))) ⌝ }
-    ensures { λ r. ⌜ now (out .exit) ≡ unpackLeft (unpackAnswer size (now (packed .entry)) (length (now (out .entry)))) size (now (packed .entry)) (now (out .entry)) ⌝ }
+pub extern "C" fn sm3rows_unpack(bits: u64, packed: &[u8], out: &mut [u8]) -> u64
+    ensures { λ r. ⌜ r ≡ packedOutcome (unpackAnswer bits (now (packed .entry)) (length (now (out .entry)))) ⌝ }
+    ensures { λ r. ⌜ now (out .exit) ≡ unpackLeft (unpackAnswer bits (now (packed .entry)) (length (now (out .entry)))) bits (now (packed .entry)) (now (out .entry)) ⌝ }
 {
-    pack_outcome(packing::unpack::unpack(size, packed, out))
+    pack_outcome(packing::unpack::unpack(bits, packed, out))
 }
