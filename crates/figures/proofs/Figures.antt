@@ -6,16 +6,19 @@ use Rattle.record.specs.Check.{checkAnswer}
 use Rattle.circuit.specs.Wires.{wireCount}
 use Rattle.circuit.specs.Places.{rowCount}
 use Rattle.record.specs.RowAnswer.{rowAnswer}
+use Rattle.encoding.specs.Bits.{bitOfBytes, number}
 use Rattle.encoding.specs.Bytes.{fromLeastFirst, leastFirst}
+use Rattle.encoding.specs.Packed.{spareBits}
 use Rattle.encoding.specs.Sequence.{tab}
 use Rattle.figures.specs.Figures.{Figure, table}
 use Rattle.listing.specs.Line.{parseOf}
 use Rattle.listing.specs.Request.{checked, requestOf}
+use Rattle.sm3.specs.Handed.{handedAnswer}
 use Rattle.sm3.specs.Message.{blocks}
 use Rattle.sm3.specs.Sm3.{P0, P1, constant, rotatedConstant}
 use Rattle.sm3.specs.Words.{rotateLeft}
 use Rattle.text.specs.Field.{continues, fieldFrom, fieldOf}
 
 pub figures : map (λ (f : Figure). f .computed) table ≡ map (λ (f : Figure). f .stated) table
-unfolding blocks wireCount rowCount rowAnswer checkAnswer entry leastFirst fromLeastFirst tab P0 P1 rotatedConstant constant rotateLeft requestOf checked parseOf fieldOf fieldFrom continues
+unfolding blocks wireCount rowCount handedAnswer spareBits number bitOfBytes rowAnswer checkAnswer entry leastFirst fromLeastFirst tab P0 P1 rotatedConstant constant rotateLeft requestOf checked parseOf fieldOf fieldFrom continues
 figures = refl

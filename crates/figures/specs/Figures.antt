@@ -1,5 +1,5 @@
--- The worked figures that document 01 marks P, one table: what the definitions give, beside the paper's figure. The
--- definitions are the ones that the contracts cite.
+-- The worked figures that document 01 marks P, one table: what the definitions give, beside the paper's figure. Lengths are in
+-- bits, the unit that document 02's request 2 gives every figure. The definitions are the ones that the contracts cite.
 use mathlib.Core.List.{List, [], _∷_}
 use Prim.Native.Nat.{ℕ, _-_, _*_, _^_}
 use Rattle.assignment.specs.Assignment.{entry}
@@ -9,6 +9,7 @@ use Rattle.circuit.specs.Wires.{wireCount}
 use Rattle.circuit.specs.Places.{rowCount}
 use Rattle.record.specs.RowAnswer.{rowAnswer, rowBytes, rowNumber}
 use Rattle.encoding.specs.Bytes.{leastFirst}
+use Rattle.encoding.specs.Packed.{packedLength}
 use Rattle.field.specs.Field.{p}
 use Rattle.listing.specs.Request.{requestNumber, requestOf}
 use Rattle.refusal.specs.Refusals.{outcomeNumber}
@@ -27,24 +28,39 @@ c is s = record { computed = c; stated = s }
 
 abbrev pub table : List Figure
 table =
-    -- "L 0 and 55 give 1 block; 56 and 119 give 2; 120 gives 3; 1,015 gives 16"
-    (blocks (8 * 0) is 1)
-    ∷ (blocks (8 * 55) is 1)
-    ∷ (blocks (8 * 56) is 2)
-    ∷ (blocks (8 * 119) is 2)
-    ∷ (blocks (8 * 120) is 3)
-    ∷ (blocks (8 * 1015) is 16)
-    -- "L 1,016 is refusal 2", of every operation, the digest, a row, the assignment and the check, and of the program's line
-    ∷ (outcomeNumber (digestAnswer 1016 32) is 2)
-    ∷ (rowNumber (rowAnswer 1016 0 rowBytes) is 2)
-    ∷ (outcomeNumber (produceAnswer 1016 (8 * wireCount (8 * 1016))) is 2)
-    ∷ (outcomeNumber (checkAnswer 1016 (leastFirst 32 0) []) is 2)
-    ∷ (requestNumber (requestOf (ascii "1016,0,0\n")) is 2)
+    -- "L 0 and 55 give 1 block; 56 and 119 give 2; 120 gives 3; 1,015 gives 16": in bits 0 and 440, 448 and 952, 960, 8,120
+    (blocks 0 is 1)
+    ∷ (blocks 440 is 1)
+    ∷ (blocks 448 is 2)
+    ∷ (blocks 952 is 2)
+    ∷ (blocks 960 is 3)
+    ∷ (blocks 8120 is 16)
+    -- the longest records of 1, of 2 and of 16 blocks; "8,127 is in range"
+    ∷ (blocks 447 is 1)
+    ∷ (blocks 959 is 2)
+    ∷ (blocks 8127 is 16)
+    ∷ (requestNumber (requestOf (ascii "8127,0,0\n")) is 0)
+    -- "L 1,016 is refusal 2": 8,128 bits, of every operation, the digest, a row, the assignment and the check, and of the program's
+    -- line
+    ∷ (outcomeNumber (digestAnswer 8128 (leastFirst 1016 0) 32) is 2)
+    ∷ (rowNumber (rowAnswer 8128 0 rowBytes) is 2)
+    ∷ (outcomeNumber (produceAnswer 8128 (leastFirst 1016 0) (8 * wireCount 8128)) is 2)
+    ∷ (outcomeNumber (checkAnswer 8128 (leastFirst 32 0) []) is 2)
+    ∷ (requestNumber (requestOf (ascii "8128,0,0\n")) is 2)
+    -- "13, the record's bytes are not the bits over 8 rounded up"; "14, a bit after the last record bit is set": 37 bits have 5
+    -- bytes, and the three low bits of the last are spare
+    ∷ (packedLength 37 is 5)
+    ∷ (outcomeNumber (digestAnswer 37 (leastFirst 4 0) 0) is 13)
+    ∷ (outcomeNumber (digestAnswer 37 (leastFirst 5 (2 ^ 32)) 0) is 14)
+    ∷ (outcomeNumber (digestAnswer 37 (leastFirst 5 (8 * 2 ^ 32)) 0) is 4)
+    ∷ (outcomeNumber (digestAnswer 37 (leastFirst 5 (8 * 2 ^ 32)) 32) is 0)
     -- "L 0 has 23,041 wires and 32,832 rows; L 1,015 has 360,961 and 517,632"
-    ∷ (wireCount (8 * 0) is 23041)
-    ∷ (rowCount (8 * 0) is 32832)
-    ∷ (wireCount (8 * 1015) is 360961)
-    ∷ (rowCount (8 * 1015) is 517632)
+    ∷ (wireCount 0 is 23041)
+    ∷ (rowCount 0 is 32832)
+    ∷ (wireCount 8120 is 360961)
+    ∷ (rowCount 8120 is 517632)
+    ∷ (wireCount 8127 is 360961)
+    ∷ (rowCount 8127 is 517632)
     -- "2^60 × 2 reads as 1; entry p reads as 0; entry 2^64 - 1 reads as 7"
     ∷ (entry (leastFirst 8 (2 ^ 60 * 2)) 0 is 1)
     ∷ (entry (leastFirst 8 p) 0 is 0)

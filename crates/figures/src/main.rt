@@ -1,16 +1,22 @@
 // Compares what the operations give with figures from outside, held against the file `stdout`: a line of hexadecimal
 // digits for each digest, then document 01's rows that are not proved.
 //
-// The first two lines are the standard's own examples: "abc", and "abcd" 16 times. The others are records of 0, 55, 56,
-// 63, 64, 119, 120 and 1,015 bytes whose byte k is k mod 251, and their digests are OpenSSL 3.0's:
+// The first two lines are the standard's own examples: "abc", and "abcd" 16 times. The others are records of whose bytes byte k
+// is k mod 251 (the crate `sample`). Of 0, 55, 56, 63, 64, 119, 120 and 1,015 bytes, lengths in bits 0 to 8,120, the digests are
+// OpenSSL 3.0's:
 //     python3 -c 'import sys; sys.stdout.buffer.write(bytes(k % 251 for k in range(L)))' | openssl dgst -sm3
+// OpenSSL hashes whole bytes. Of 1, 5, 447, 449, 505, 511, 959, 961 and 8,127 bits the digests are the judge's, which hashes bit
+// strings and is written from the standard (tests/judge), where the bits after the last are 0 in their byte:
+//     python3 -c 'import sys; sys.stdout.buffer.write(..)' | judge digest BITS
 //
 // The rows are document 01's, each a line: the refusal's number, 0 for none, the counts of A, B and C, and three terms,
-// each a wire and a coefficient. Row 256 fixes wire 513 to 1 at L 0; at L 1 it is a bit row, with p - 1 on wire 0 in B; row
-// 32,576 at L 0 has wires 1 (1) and 22,785 (p - 1) in A; row 32,832 at L 0 is refusal 3.
+// each a wire and a coefficient. Row 256 fixes wire 513 to 1 at 0 bits; at 1 byte, and at 1 bit too, it is a bit row, with p - 1
+// on wire 0 in B; at 1 bit row 257 fixes wire 514 to 1; row 32,576 at 0 bits has wires 1 (1) and 22,785 (p - 1) in A; row 32,832
+// at 0 bits is refusal 3.
 ghost use Prim.Native.Nat.{_+_, _≤_};
 ghost use Rattle.record.specs.RowAnswer.{rowBytes};
-ghost use Rattle.sm3.specs.Message.{longest};
+ghost use Rattle.sm3.specs.Message.{mostBits};
+use encoding::packed::packed_length;
 use encoding::read::eight_bytes;
 use encoding::read::four_bytes;
 use libc::STDOUT_FILENO;
@@ -19,7 +25,7 @@ use record::row::RowAnswer;
 use record::row::row;
 use refusal::numbers::RowNumber;
 use refusal::outcome::number_of;
-use sm3::message::LONGEST;
+use sample::counted;
 
 // The hexadecimal digit of a number's lowest four bits.
 fn hex_digit(x: u8) -> u8 {
@@ -37,22 +43,20 @@ fn print_digest(digest: &[u8; 32]) {
     io::write_all(STDOUT_FILENO, &line);
 }
 
-// The digest of a record, printed.
-fn show(bytes: &[u8]) {
+// The digest of a record of so many bits, printed.
+fn show(bits: u64, bytes: &[u8]) {
     let mut out = [0u8; 32];
-    sm3::digest::digest(bytes, &mut out);
+    sm3::digest::digest(bits, bytes, &mut out);
     print_digest(&out);
 }
 
-// The record of n bytes whose byte k is k mod 251.
-fn show_counted(n: usize)
-    requires { ⌜ n ≤ longest ⌝ }
+// The record of so many bits whose byte k is k mod 251.
+fn show_counted(bits: u64)
+    requires { ⌜ bits ≤ mostBits ⌝ }
 {
-    let mut bytes = [0u8; LONGEST as usize];
-    for k in 0..LONGEST as usize {
-        bytes[k] = (k % 251) as u8;
-    }
-    show(&bytes[..n]);
+    let bytes = counted(bits);
+    let end = packed_length(bits) as usize;
+    show(bits, &bytes[..end]);
 }
 
 // A number in decimal, and a blank.
@@ -80,10 +84,10 @@ fn print_row(a: u64, b: u64, c: u64, bytes: &[u8; ROW_BYTES]) {
     print_term(bytes, 24);
 }
 
-// The row of a number for a record of `size` bytes: the refusal's number, or 0, the counts and three terms.
-fn show_row(size: u64, number: u64) {
+// The row of a number for a record of so many bits: the refusal's number, or 0, the counts and three terms.
+fn show_row(bits: u64, number: u64) {
     let mut out = [0u8; ROW_BYTES];
-    let answer = row(size, RowNumber(number), &mut out);
+    let answer = row(bits, RowNumber(number), &mut out);
     match answer {
         RowAnswer::Given { a, b, c } => print_row(a, b, c, &out),
         RowAnswer::Refused(refusal) => print_number(number_of(refusal)),
@@ -92,18 +96,32 @@ fn show_row(size: u64, number: u64) {
 }
 
 fn main() {
-    show(b"abc");
-    show(b"abcdabcdabcdabcdabcdabcdabcdabcdabcdabcdabcdabcdabcdabcdabcdabcd");
+    show(24, b"abc");
+    show(
+        512,
+        b"abcdabcdabcdabcdabcdabcdabcdabcdabcdabcdabcdabcdabcdabcdabcdabcd",
+    );
     show_counted(0);
-    show_counted(55);
-    show_counted(56);
-    show_counted(63);
-    show_counted(64);
-    show_counted(119);
-    show_counted(120);
-    show_counted(1015);
+    show_counted(440);
+    show_counted(448);
+    show_counted(504);
+    show_counted(512);
+    show_counted(952);
+    show_counted(960);
+    show_counted(8120);
+    show_counted(1);
+    show_counted(5);
+    show_counted(447);
+    show_counted(449);
+    show_counted(505);
+    show_counted(511);
+    show_counted(959);
+    show_counted(961);
+    show_counted(8127);
     show_row(0, 256);
+    show_row(8, 256);
     show_row(1, 256);
+    show_row(1, 257);
     show_row(0, 32576);
     show_row(0, 32832);
 }

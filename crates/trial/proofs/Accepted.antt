@@ -10,34 +10,34 @@ use Rattle.record.proofs.Demand3.{demand3}
 use Rattle.record.specs.Check.{checkAnswer}
 use Rattle.record.specs.Produce.{produceAnswer, produceLeft}
 use Rattle.circuit.specs.Wires.{wireCount}
-use Rattle.encoding.specs.Bytes.{Bytes}
 use Rattle.refusal.specs.declared.outcome.Outcome.{Outcome}
 use Rattle.refusal.specs.declared.outcome.Outcome.the-variants.{Done}
+use Rattle.sm3.proofs.handed.Asked.{handed-passes}
 use Rattle.sm3.specs.Digest.{digestAnswer, digestLeft}
-use Rattle.sm3.specs.Message.{digestBytes, longest}
+use Rattle.sm3.specs.Handed.{IsRecord}
+use Rattle.sm3.specs.Message.{digestBytes, mostBits}
 
 -- what `digest` leaves in 32 bytes
-digest-left : (r before after : List ℕ) (answer : Outcome) → length r ≤ longest → length before ≡ 32
-    → answer ≡ digestAnswer (length r) (length before) → after ≡ digestLeft answer r before → after ≡ digestBytes r
-digest-left r before after answer fits room e left =
-    let written : digestAnswer (length r) (length before) ≡ Done =
-    rw (le-ltb longest (length r) fits, le-ltb (length before) 32 (omega arith)) in
+digest-left : (n : ℕ) (r before after : List ℕ) (answer : Outcome) → n ≤ mostBits → IsRecord n r → length before ≡ 32
+    → answer ≡ digestAnswer n r (length before) → after ≡ digestLeft answer n r before → after ≡ digestBytes n r
+digest-left n r before after answer range is room e left =
+    let written : digestAnswer n r (length before) ≡ Done =
+    handed-passes n r _ range is ∙ rw (le-ltb (length before) 32 (omega arith)) in
     left
-    ∙ ap (λ q. digestLeft q r before) (e ∙ written)
-    ∙ ap (λ l. digestBytes r ++ l) (drop-of-length-le before {i = 32} (omega arith))
-    ∙ append-nil (digestBytes r)
+    ∙ ap (λ q. digestLeft q n r before) (e ∙ written)
+    ∙ ap (λ l. digestBytes n r ++ l) (drop-of-length-le before {i = 32} (omega arith))
+    ∙ append-nil (digestBytes n r)
 
-pub produced-accepted : (r out before digest left : List ℕ) (end : ℕ) (hashed made checked : Outcome)
-    → Bytes r → length r ≤ longest → 8 * wireCount (8 * length r) ≤ length out → length before ≡ 32
-    → hashed ≡ digestAnswer (length r) (length before) → digest ≡ digestLeft hashed r before
-    → made ≡ produceAnswer (length r) (length out) → left ≡ produceLeft made r out
-    → end ≡ 8 * wireCount (8 * length r)
-    → checked ≡ checkAnswer (length r) digest (take end left)
+pub produced-accepted : (n : ℕ) (r out before digest left : List ℕ) (end : ℕ) (hashed made checked : Outcome)
+    → n ≤ mostBits → IsRecord n r → 8 * wireCount n ≤ length out → length before ≡ 32
+    → hashed ≡ digestAnswer n r (length before) → digest ≡ digestLeft hashed n r before
+    → made ≡ produceAnswer n r (length out) → left ≡ produceLeft made n r out
+    → end ≡ 8 * wireCount n
+    → checked ≡ checkAnswer n digest (take end left)
     → checked ≡ Done
-produced-accepted r out before digest left end hashed made checked bytes fits room long eh ed em el ee ec =
+produced-accepted n r out before digest left end hashed made checked range is room long eh ed em el ee ec =
     ec
-    ∙ ap (λ t. checkAnswer (length r) t (take end left)) (digest-left r before digest hashed fits long eh ed)
-    ∙ ap (λ n. checkAnswer (length r) (digestBytes r) (take n left)) ee
-    ∙ ap (λ l. checkAnswer (length r) (digestBytes r) (take (8 * wireCount (8 * length r)) l))
-    (el ∙ ap (λ q. produceLeft q r out) em)
-    ∙ demand3 .produced r out bytes fits room
+    ∙ ap (λ t. checkAnswer n t (take end left)) (digest-left n r before digest hashed range is long eh ed)
+    ∙ ap (λ m. checkAnswer n (digestBytes n r) (take m left)) ee
+    ∙ ap (λ l. checkAnswer n (digestBytes n r) (take (8 * wireCount n) l)) (el ∙ ap (λ q. produceLeft q n r out) em)
+    ∙ demand3 .produced n r out range is room

@@ -4,7 +4,7 @@ ghost use Prim.Native.Nat.{_+_, _*_, _<_, _≤_};
 ghost use lib.ListN.{length};
 ghost use Rattle.circuit.specs.Wires.{wireCount, firstBlock};
 ghost use Rattle.block.specs.Wires.{wiresPerBlock};
-ghost use Rattle.sm3.specs.Message.{longest, mostBits};
+ghost use Rattle.sm3.specs.Message.{mostBits};
 use crate::line::show;
 use assignment::entry::raw;
 use assignment::entry::read;
@@ -19,25 +19,25 @@ use circuit::wire::block_first;
 use field::P;
 use record::check::check;
 use refusal::numbers::WireNumber;
-use sm3::message::LONGEST;
+use sm3::message::MOST_BITS;
 use sm3::message::block_count;
 
 // The check of an assignment with the entry of wire w set to v. The entry is then as it was.
-fn disturb(size: u64, what: &[u8], digest: &[u8], assignment: &mut [u8], w: WireNumber, v: u64)
+fn disturb(bits: u64, what: &[u8], digest: &[u8], assignment: &mut [u8], w: WireNumber, v: u64)
     requires { ⌜ 8 * (w .0 + 1) ≤ length (now assignment) ⌝ }
 {
     let held = raw(assignment, w);
     put_entry(assignment, w, v);
-    show(size, what, check(size, digest, assignment));
+    show(bits, what, check(bits, digest, assignment));
     put_entry(assignment, w, held);
 }
 
 // The same with the entry of wire w changed from 0 to 1, or from 1 to 0.
-fn change(size: u64, what: &[u8], digest: &[u8], assignment: &mut [u8], w: WireNumber)
+fn change(bits: u64, what: &[u8], digest: &[u8], assignment: &mut [u8], w: WireNumber)
     requires { ⌜ 8 * (w .0 + 1) ≤ length (now assignment) ⌝ }
 {
     let v = 1 - read(assignment, w) % 2;
-    disturb(size, what, digest, assignment, w, v);
+    disturb(bits, what, digest, assignment, w, v);
 }
 
 // The wire of bit k of the message of a record of so many bits: a bit of the record, or the first of its padding.
@@ -58,38 +58,37 @@ fn last_block(bits: u64) -> WireNumber
 }
 
 // Wires before the blocks: wire 0, the first of the digest and the first of the start words.
-fn change_frame(size: u64, digest: &[u8], assignment: &mut [u8])
+fn change_frame(bits: u64, digest: &[u8], assignment: &mut [u8])
     requires { ⌜ 8 * firstBlock ≤ length (now assignment) ⌝ }
 {
-    change(size, b"one", digest, assignment, WireNumber(0));
-    change(size, b"digest", digest, assignment, WireNumber(DIGEST));
-    change(size, b"start", digest, assignment, WireNumber(START));
+    change(bits, b"one", digest, assignment, WireNumber(0));
+    change(bits, b"digest", digest, assignment, WireNumber(DIGEST));
+    change(bits, b"start", digest, assignment, WireNumber(START));
 }
 
 // Wires of the message: the padding's first bit, and the record's last where it has one.
-fn change_message(size: u64, digest: &[u8], assignment: &mut [u8])
-    requires { ⌜ (size ≤ longest) × (length (now assignment) ≡ 8 * wireCount (8 * size)) ⌝ }
+fn change_message(bits: u64, digest: &[u8], assignment: &mut [u8])
+    requires { ⌜ (bits ≤ mostBits) × (length (now assignment) ≡ 8 * wireCount bits) ⌝ }
 {
-    let bits = 8 * size;
     let padding = message_wire(bits, bits);
-    change(size, b"padding", digest, assignment, padding);
-    if size == 0 {
+    change(bits, b"padding", digest, assignment, padding);
+    if bits == 0 {
         return;
     }
     let record = message_wire(bits, bits - 1);
-    change(size, b"record", digest, assignment, record);
+    change(bits, b"record", digest, assignment, record);
 }
 
 // Wires of the last block: a carry of its last round, and the last wire of its result.
-fn change_last_block(size: u64, digest: &[u8], assignment: &mut [u8])
-    requires { ⌜ (size ≤ longest) × (length (now assignment) ≡ 8 * wireCount (8 * size)) ⌝ }
+fn change_last_block(bits: u64, digest: &[u8], assignment: &mut [u8])
+    requires { ⌜ (bits ≤ mostBits) × (length (now assignment) ≡ 8 * wireCount bits) ⌝ }
 {
-    let last = last_block(8 * size);
+    let last = last_block(bits);
     let carry = last.0 + ROUNDS + ROUND_WIDTH * 63 + TT2 + 33;
-    change(size, b"carry", digest, assignment, WireNumber(carry));
-    disturb(size, b"two", digest, assignment, WireNumber(carry), 2);
+    change(bits, b"carry", digest, assignment, WireNumber(carry));
+    disturb(bits, b"two", digest, assignment, WireNumber(carry), 2);
     let result = last.0 + BLOCK_WIRES - 1;
-    change(size, b"result", digest, assignment, WireNumber(result));
+    change(bits, b"result", digest, assignment, WireNumber(result));
 }
 
 // A digest with another first bit.
@@ -102,12 +101,12 @@ fn other_digest(digest: [u8; 32]) -> [u8; 32]
 }
 
 // Another digest held against the assignment, as it is and with the digest's first wire changed too.
-fn change_digest(size: u64, digest: [u8; 32], assignment: &mut [u8])
+fn change_digest(bits: u64, digest: [u8; 32], assignment: &mut [u8])
     requires { ⌜ 8 * firstBlock ≤ length (now assignment) ⌝ }
 {
     let other = other_digest(digest);
-    show(size, b"other", check(size, &other, assignment));
-    change(size, b"both", &other, assignment, WireNumber(DIGEST));
+    show(bits, b"other", check(bits, &other, assignment));
+    change(bits, b"both", &other, assignment, WireNumber(DIGEST));
 }
 
 // Some bytes without the last.
@@ -119,14 +118,14 @@ fn all_but_last(bytes: &[u8]) -> &[u8]
 }
 
 // A length above the limit, and a digest and an assignment that lack a byte.
-fn change_lengths(size: u64, digest: &[u8], assignment: &[u8])
+fn change_lengths(bits: u64, digest: &[u8], assignment: &[u8])
     requires { ⌜ (1 ≤ length (now digest)) × (1 ≤ length (now assignment)) ⌝ }
 {
-    show(size, b"length", check(LONGEST + 1, digest, assignment));
-    let digest31 = check(size, all_but_last(digest), assignment);
-    show(size, b"digest31", digest31);
-    let short = check(size, digest, all_but_last(assignment));
-    show(size, b"short", short);
+    show(bits, b"length", check(MOST_BITS + 1, digest, assignment));
+    let digest31 = check(bits, all_but_last(digest), assignment);
+    show(bits, b"digest31", digest31);
+    let short = check(bits, digest, all_but_last(assignment));
+    show(bits, b"short", short);
 }
 
 // p added to every entry.
@@ -139,14 +138,14 @@ fn add_p(assignment: &mut [u8]) {
 }
 
 // Every change to an assignment that is accepted, and the check after each.
-pub fn change_all(size: u64, digest: [u8; 32], assignment: &mut [u8])
-    requires { ⌜ (size ≤ longest) × (length digest ≡ 32) × (length (now assignment) ≡ 8 * wireCount (8 * size)) × (8 * firstBlock ≤ length (now assignment)) ⌝ }
+pub fn change_all(bits: u64, digest: [u8; 32], assignment: &mut [u8])
+    requires { ⌜ (bits ≤ mostBits) × (length digest ≡ 32) × (length (now assignment) ≡ 8 * wireCount bits) × (8 * firstBlock ≤ length (now assignment)) ⌝ }
 {
-    change_frame(size, &digest, assignment);
-    change_message(size, &digest, assignment);
-    change_last_block(size, &digest, assignment);
-    change_digest(size, digest, assignment);
-    change_lengths(size, &digest, assignment);
+    change_frame(bits, &digest, assignment);
+    change_message(bits, &digest, assignment);
+    change_last_block(bits, &digest, assignment);
+    change_digest(bits, digest, assignment);
+    change_lengths(bits, &digest, assignment);
     add_p(assignment);
-    show(size, b"plus_p", check(size, &digest, assignment));
+    show(bits, b"plus_p", check(bits, &digest, assignment));
 }

@@ -23,9 +23,9 @@ fn print_outcome(outcome: Outcome) {
     }
 }
 
-// The line of a check: the record's length, what was done, the refusal's number, and the row where it names one.
-pub fn show(size: u64, what: &[u8], outcome: Outcome) {
-    io::print_decimal(STDOUT_FILENO, size);
+// The line of a check: the record's length in bits, what was done, the refusal's number, and the row where it names one.
+pub fn show(bits: u64, what: &[u8], outcome: Outcome) {
+    io::print_decimal(STDOUT_FILENO, bits);
     io::write_all(STDOUT_FILENO, b",");
     io::write_all(STDOUT_FILENO, what);
     io::write_all(STDOUT_FILENO, b",");

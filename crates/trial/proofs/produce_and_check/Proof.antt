@@ -5,6 +5,7 @@ use Prim.Native.Nat.{_*_}
 use native.Mathlib.Omega.{arith}
 use lib.Seq.{length-take-le}
 use borrow.Author.Needs.{needs}
+use Rattle.sm3.specs.Handed.{IsRecord}
 use Rattle.trial.proofs.Accepted.{produced-accepted}
 use Rattle.trial.proofs.produce_and_check.Statement.{statement}
 use Rattle.trial.proofs.produce_and_check.Tie as tie
@@ -14,9 +15,6 @@ digest-requires c κs = search needs
 
 produce-requires : tie.Need-produce-requires
 produce-requires c κs = search needs
-
-mul-wire-count : tie.Need-mul-wire-count
-mul-wire-count c = search needs
 
 wire-count-requires : tie.Need-wire-count-requires
 wire-count-requires c κs = search needs
@@ -44,8 +42,14 @@ returns c =
     let start = c .before .before .before .before .before .before .before .before .before .before .before .before .before .before .before in
     let hashed = c .before .before .before .before .before .before .before .before .before .before .digest in
     let made = c .before .before .before .before .before .before .produce in
-    produced-accepted (start .args .bytes .now) (start .args .out .now) (start .args .sum .now) _ _ _ (hashed .result) (made .result) (c .check .result)
-    (λ k. (c .before .before .before .before .before .before .before .before .before .before .before .before .before .before .shared-slice-known .given k) .fits) (start .pre .0) (start .pre .2) (start .pre .1)
+    let is : IsRecord (start .args .bits) (start .args .bytes .now) =
+    record {
+      bytes = λ k. (c .before .before .before .before .before .before .before .before .before .before .before .before .before .before .shared-slice-known .given k) .fits;
+      size = start .pre .1;
+      spare = start .pre .2;
+    } in
+    produced-accepted (start .args .bits) (start .args .bytes .now) (start .args .out .now) (start .args .sum .now) _ _ _ (hashed .result) (made .result) (c .check .result)
+    (start .pre .0) is (start .pre .4) (start .pre .3)
     (hashed .ensures .0) (hashed .ensures .1) (made .ensures .0) (made .ensures .1)
     (ap (λ n. 8 * n) (c .before .before .before .wire-count .ensures .0)) (c .check .ensures)
 
@@ -55,7 +59,6 @@ produce-and-check-spec =
     (tie.spec
     digest-requires
     produce-requires
-    mul-wire-count
     wire-count-requires
     mul-end
     slice-reshare-prefix-check

@@ -1,25 +1,25 @@
 -- A prefix is as long as it says.
 use mathlib.Core.Path.{sym}
-use Prim.Native.Nat.{_≤_}
 use native.Mathlib.Omega.{arith}
-use lib.Seq.{length-take-le}
-use Rattle.sm3.specs.Message.{longest}
 use borrow.Author.Needs.{needs}
-use Rattle.trial.proofs.Front.{of-front}
+use lib.Seq.{length-take-le}
 use Rattle.trial.proofs.try_length.Statement.{statement}
 use Rattle.trial.proofs.try_length.Tie as tie
 
 counted-requires : tie.Need-counted-requires
 counted-requires c κs = search needs
 
-array-share-prefix-record : tie.Need-array-share-prefix-record
-array-share-prefix-record c = search needs
+packed-length-requires : tie.Need-packed-length-requires
+packed-length-requires c κs = search needs
 
-slice-aggregate-try-record : tie.Need-slice-aggregate-try-record
-slice-aggregate-try-record c = sym (length-take-le _ _ (omega arith))
+array-share-prefix-bytes : tie.Need-array-share-prefix-bytes
+array-share-prefix-bytes c = search needs
 
-try-record-requires : tie.Need-try-record-requires
-try-record-requires c κs = (of-front (λ n. n ≤ longest) _ _ (c .before .before .before .before .pre .0) (omega arith), search needs)
+slice-aggregate-try-handed : tie.Need-slice-aggregate-try-handed
+slice-aggregate-try-handed c = sym (length-take-le _ _ (omega arith))
+
+try-handed-requires : tie.Need-try-handed-requires
+try-handed-requires c κs = search needs
 
 same-length : tie.Need-same-length
 same-length c = search needs
@@ -32,8 +32,9 @@ try-length-spec =
     tie.close
     (tie.spec
     counted-requires
-    array-share-prefix-record
-    slice-aggregate-try-record
-    try-record-requires
+    packed-length-requires
+    array-share-prefix-bytes
+    slice-aggregate-try-handed
+    try-handed-requires
     same-length
     returns)

@@ -20,13 +20,11 @@ slice-aggregate-produce-and-check c = search needs
 
 produce-and-check-requires : tie.Need-produce-and-check-requires
 unfolding wireCount blocks
-produce-and-check-requires c κs = (c .before .before .before .before .before .pre .0, search needs, omega (arith, c .before .before .before .before .before .pre .0))
+produce-and-check-requires c κs =
+    let pre = c .before .before .before .before .before .pre in (pre .0, pre .1, pre .2, search needs, omega (arith, pre .0))
 
 show-requires : tie.Need-show-requires
 show-requires c κs = search needs
-
-mul-wire-count : tie.Need-mul-wire-count
-mul-wire-count c = search needs
 
 wire-count-requires : tie.Need-wire-count-requires
 wire-count-requires c κs = search needs
@@ -49,7 +47,7 @@ change-all-requires c κs =
     let wires = c .before .wire-count .ensures .0 in (
       start .pre .0,
       search needs,
-      of-front (λ n. n ≡ 8 * wireCount (8 * length (start .args .bytes .now))) _ _ (ap (λ n. 8 * n) wires) (omega (arith, wires, start .pre .0)),
+      of-front (λ n. n ≡ 8 * wireCount (start .args .bits)) _ _ (ap (λ n. 8 * n) wires) (omega (arith, wires, start .pre .0)),
       of-front (λ n. 8 * firstBlock ≤ n) (8 * c .before .wire-count .result) _ (omega (arith, wires)) (omega (arith, wires, start .pre .0)),
     )
 
@@ -67,7 +65,6 @@ try-record-spec =
     slice-aggregate-produce-and-check
     produce-and-check-requires
     show-requires
-    mul-wire-count
     wire-count-requires
     mul-end
     slice-relend-prefix-change-all

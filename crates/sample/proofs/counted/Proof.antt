@@ -1,17 +1,16 @@
--- The record keeps its 1,015 bytes.
+-- The record keeps its 1,016 bytes.
 use mathlib.Core.Path.{_≡_}
 use Prim.Native.Nat.{_-_, _≤_}
 use lib.ListN.{length}
-use Rattle.sm3.specs.Message.{longest}
 use borrow.Author.Needs.{needs}
-use Rattle.trial.proofs.counted.Statement.{statement}
-use Rattle.trial.proofs.counted.Tie as tie
+use Rattle.sample.proofs.counted.Statement.{statement}
+use Rattle.sample.proofs.counted.Tie as tie
 
 abbrev Inv-loop : tie.InvT-loop
-Inv-loop bytes₀ k₀ bytes k = (k ≤ longest) × (length bytes ≡ longest)
+Inv-loop bits first bytes₀ k₀ bytes k = (k ≤ 1016) × (length bytes ≡ 1016)
 
 abbrev μ-loop : tie.MeasureT-loop
-μ-loop bytes₀ k₀ bytes k = longest - k
+μ-loop bits first bytes₀ k₀ bytes k = 1016 - k
 
 loop-holds : tie.Need-loop-holds Inv-loop μ-loop
 loop-holds c = search needs
@@ -31,6 +30,15 @@ loop-less c = search needs
 loop-again : tie.Need-loop-again Inv-loop μ-loop
 loop-again c = search needs
 
+array-read-bytes : tie.Need-array-read-bytes Inv-loop μ-loop
+array-read-bytes c = search needs
+
+array-read-bytes-2 : tie.Need-array-read-bytes-2 Inv-loop μ-loop
+array-read-bytes-2 c = search needs
+
+array-write-bytes-2 : tie.Need-array-write-bytes-2 Inv-loop μ-loop
+array-write-bytes-2 c = search needs
+
 returns : tie.Need-returns Inv-loop μ-loop
 returns c = search needs
 
@@ -46,4 +54,7 @@ counted-spec =
     add-k
     loop-less
     loop-again
+    array-read-bytes
+    array-read-bytes-2
+    array-write-bytes-2
     returns)
