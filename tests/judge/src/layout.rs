@@ -74,12 +74,16 @@ pub fn wires(record: &Record) -> Vec<u8> {
 }
 
 /// "8 bytes a wire, least byte first"; "our producer writes every entry as
-/// the number 0 or 1".
-pub fn assignment(record: &Record) -> Vec<u8> {
-    let wires = wires(record);
-    let mut assignment = vec![0; 8 * wires.len()];
-    for (entry, wire) in assignment.chunks_exact_mut(8).zip(wires) {
+/// the number 0 or 1". The buffer is long enough; bytes past them stay.
+pub fn write_assignment(record: &Record, buffer: &mut [u8]) {
+    for (entry, wire) in buffer.chunks_exact_mut(8).zip(wires(record)) {
         entry.copy_from_slice(&u64::from(wire).to_le_bytes());
     }
+}
+
+/// The same in bytes of its own.
+pub fn assignment(record: &Record) -> Vec<u8> {
+    let mut assignment = vec![0; record.length().assignment_bytes()];
+    write_assignment(record, &mut assignment);
     assignment
 }

@@ -35,9 +35,8 @@ pub fn digest(length: u64, record: &[u8], buffer: &mut [u8]) -> Result<(), Refus
 /// refusals 2, 13, 14, 4.
 pub fn produce(length: u64, record: &[u8], buffer: &mut [u8]) -> Result<(), Refusal> {
     let record = Record::new(length, record)?;
-    let exact = record.length().assignment_bytes();
-    long_enough(buffer, exact)?;
-    buffer[..exact].copy_from_slice(&layout::assignment(&record));
+    long_enough(buffer, record.length().assignment_bytes())?;
+    layout::write_assignment(&record, buffer);
     Ok(())
 }
 

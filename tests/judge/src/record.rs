@@ -13,8 +13,8 @@ pub struct Record {
 
 /// Those bits of the last byte that stand after the last record bit. Where the
 /// bits fill whole bytes there are none.
-pub fn spare_bits(length: Length) -> u8 {
-    match length.bits() % 8 {
+pub fn spare_bits(bits: u64) -> u8 {
+    match bits % 8 {
         0 => 0,
         used => 0xff >> used,
     }
@@ -29,7 +29,7 @@ impl Record {
             return Err(Refusal::RecordBytes);
         }
         let last = bytes.last().copied().unwrap_or(0);
-        if last & spare_bits(length) != 0 {
+        if last & spare_bits(bits) != 0 {
             return Err(Refusal::BitAfterRecord);
         }
         Ok(Record {
@@ -49,7 +49,7 @@ impl Record {
         let length = Length::new(bits)?;
         let mut bytes = bytes[..length.record_bytes()].to_vec();
         if let Some(last) = bytes.last_mut() {
-            *last &= !spare_bits(length);
+            *last &= !spare_bits(bits);
         }
         Ok(Record { length, bytes })
     }

@@ -30,11 +30,10 @@ fn padded(mut message: Bits) -> Bits {
     message
 }
 
+/// The word written twice, and 32 bits of that.
 fn turned(x: u32, by: u32) -> u32 {
-    match by % 32 {
-        0 => x,
-        by => x << by | x >> (32 - by),
-    }
+    let twice = u64::from(x) << 32 | u64::from(x);
+    (twice >> (32 - by % 32)) as u32
 }
 
 fn expanded(block: &[u8]) -> Vec<u32> {
