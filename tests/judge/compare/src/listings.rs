@@ -8,9 +8,10 @@ use crate::program::{damaged, Program};
 use crate::random::Random;
 use crate::sections::{BLOCK_ROWS, START_ROWS};
 
-/// Lines that meet one clause each of the line's rule, its figures, and lines
-/// with the faults of several refusals.
-const LINES: [&str; 47] = [
+/// Lines that meet one clause each of the line's rule, its figures, lengths that
+/// would be 0 and 447 after losing upper bits, and lines with the faults of
+/// several refusals.
+const LINES: [&str; 51] = [
     "0,0,2\n",
     "0,0,0\n",
     "0,32832,0\n",
@@ -26,6 +27,10 @@ const LINES: [&str; 47] = [
     "8120,517632,0\n",
     "8128,0,0\n",
     "8128,999999999,999999999\n",
+    "8192,0,0\n",
+    "8639,0,0\n",
+    "65536,0,0\n",
+    "65983,0,0\n",
     "999999999,0,0\n",
     "1000000000,0,0\n",
     "0,1000000000,0\n",

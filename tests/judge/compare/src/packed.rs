@@ -65,7 +65,9 @@ impl Input {
             self.packed.resize(random.pick(&sizes), 0);
         }
         if has(2) {
-            self.length = random.pick(&[8128, 8129, 8192, 65_536, 65_544, 999_999_999]);
+            // Two would be the length after losing upper bits.
+            let wider = [8192, 65_536].map(|more| more + self.length);
+            self.length = random.pick(&[8128, 8129, wider[0], wider[1], 999_999_999]);
         }
     }
 }

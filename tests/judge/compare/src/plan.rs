@@ -76,7 +76,7 @@ impl Amounts {
             padding_step: 1,
             packed: 1,
             block_bit_claims: 2,
-            length_step: 15,
+            length_step: 11,
             sampled_rows: 1_000,
             some_damages: 8,
             tables,
