@@ -5,7 +5,7 @@ mod support;
 use judge::operations::{digest, produce, row, row_with, Counts, ROW_BYTES};
 use judge::refusal::Refusal;
 use judge::{layout, rows, sm3};
-use support::{length, record, untouched, LENGTHS, OLD};
+use support::{entry, length, record, untouched, LENGTHS, OLD};
 
 #[test]
 fn digest_writes_32_bytes() {
@@ -27,6 +27,9 @@ fn produce_writes_the_layout() {
         let mut buffer = vec![OLD; size + 9];
         assert_eq!(produce(bits, record.bytes(), &mut buffer), Ok(()));
         assert!(buffer[..size] == layout::assignment(&record)[..]);
+        for (wire, value) in layout::wires(&record).into_iter().enumerate() {
+            assert_eq!(entry(&buffer, wire), u64::from(value), "wire {wire}");
+        }
         assert!(untouched(&buffer[size..]));
     }
 }

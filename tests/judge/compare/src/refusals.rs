@@ -8,6 +8,7 @@ use judge::refusal::Refusal;
 
 use crate::calls::Calls;
 use crate::claim::{Claim, Ground};
+use crate::random::Random;
 use crate::records;
 
 /// Lengths out of range. Some would be in range after losing upper bits, some
@@ -104,9 +105,8 @@ struct Faulty {
     assignment: Vec<u8>,
 }
 
-fn faulty(calls: &mut Calls, right: &Claim, length: u64, has: impl Fn(u8) -> bool) -> Faulty {
-    let random = &mut calls.random;
-    let mut claim = right.clone();
+/// The faults of refusals 7, 8 and 9, which are in the entries.
+fn spoil(claim: &mut Claim, has: impl Fn(u8) -> bool, random: &mut Random) {
     if has(9) {
         let wire = random.range(257, claim.wires());
         let turned = 1 - claim.entry(wire);
@@ -120,6 +120,12 @@ fn faulty(calls: &mut Calls, right: &Claim, length: u64, has: impl Fn(u8) -> boo
     if has(7) {
         claim.set(0, random.pick(&[0, 2, P, P + 2, P - 1, u64::MAX]));
     }
+}
+
+fn faulty(calls: &mut Calls, right: &Claim, length: u64, has: impl Fn(u8) -> bool) -> Faulty {
+    let random = &mut calls.random;
+    let mut claim = right.clone();
+    spoil(&mut claim, &has, random);
     let mut assignment = claim.assignment;
     if has(6) {
         let exact = assignment.len();
