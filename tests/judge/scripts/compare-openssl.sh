@@ -1,7 +1,7 @@
 #!/bin/sh
-# Compares `judge digest` with `openssl dgst -sm3` for every record length
-# from 0 to 1,015, on bytes without a pattern, and on bytes of all ones at
-# the lengths around block ends. Run from anywhere after
+# Compares `judge digest` with `openssl dgst -sm3`, which takes whole bytes, for
+# every record of 0 to 1,015 bytes, on bytes without a pattern, and on bytes of
+# all ones at the lengths around block ends. Run from anywhere after
 # `cargo build --release -j1`. JUDGE names another binary if wanted.
 set -eu
 
@@ -18,11 +18,11 @@ tr '\000' '\377' < "$work/zeros" > "$work/ones"
 # compare FILE LENGTH: the first LENGTH bytes of FILE, by both programs.
 compare() {
     head -c "$2" "$1" > "$work/record"
-    ours=$("$judge" digest < "$work/record")
+    ours=$("$judge" digest "$((8 * $2))" < "$work/record")
     theirs=$(openssl dgst -sm3 -r < "$work/record")
     theirs=${theirs%% *}
     if [ "$ours" != "$theirs" ]; then
-        echo "length $2: judge $ours, openssl $theirs"
+        echo "$2 bytes: judge $ours, openssl $theirs"
         exit 1
     fi
     compared=$((compared + 1))

@@ -1,7 +1,7 @@
 //! "A record's wires by the layout are numbers 0 and 1, worked out from the
 //! record alone and from no row." Nothing here looks at the rows.
 
-use crate::length::Length;
+use crate::record::Record;
 use crate::sm3::{self, Block, Round, Sum, Words};
 
 /// Wires written so far, in rising order; the next one goes to the end.
@@ -57,13 +57,11 @@ impl Wires {
     }
 }
 
-/// The value, 0 or 1, of every wire of a record. Records above 1,015 bytes
-/// have no layout; the operations refuse them before they come here.
-pub fn wires(record: &[u8]) -> Vec<u8> {
-    let length = Length::of(record).expect("a record in range");
+/// The value, 0 or 1, of every wire of a record.
+pub fn wires(record: &Record) -> Vec<u8> {
     let blocks = sm3::blocks(&sm3::pad(record));
     let digest: Words = blocks[blocks.len() - 1].result;
-    let mut wires = Wires(Vec::with_capacity(length.wires()));
+    let mut wires = Wires(Vec::with_capacity(record.length().wires()));
     // "Wire 0 is the constant 1. Wires 1 to 256: digest. 257 to 512: start
     // words. Then 22,528 a block."
     wires.bit(true);
@@ -76,8 +74,16 @@ pub fn wires(record: &[u8]) -> Vec<u8> {
 }
 
 /// "8 bytes a wire, least byte first"; "our producer writes every entry as
-/// the number 0 or 1".
-pub fn assignment(record: &[u8]) -> Vec<u8> {
-    let entry = |wire: u8| u64::from(wire).to_le_bytes();
-    wires(record).into_iter().flat_map(entry).collect()
+/// the number 0 or 1". The buffer is long enough; bytes past them stay.
+pub fn write_assignment(record: &Record, buffer: &mut [u8]) {
+    for (entry, wire) in buffer.chunks_exact_mut(8).zip(wires(record)) {
+        entry.copy_from_slice(&u64::from(wire).to_le_bytes());
+    }
+}
+
+/// The same in bytes of its own.
+pub fn assignment(record: &Record) -> Vec<u8> {
+    let mut assignment = vec![0; record.length().assignment_bytes()];
+    write_assignment(record, &mut assignment);
+    assignment
 }

@@ -2,34 +2,34 @@
 
 use crate::refusal::Refusal;
 
-/// "A length is in range from 0 to 1,015."
-pub const LONGEST: u64 = 1015;
+/// "The length becomes a bit count from 0 to 8,127 everywhere."
+pub const LONGEST: u64 = 8127;
 
-/// A record length that is known to be in range.
+/// A record length, in bits, that is known to be in range.
 #[derive(Clone, Copy, Debug, PartialEq, Eq)]
 pub struct Length(usize);
 
 impl Length {
-    /// Refusal 2: "The record length is above 1,015."
-    pub fn new(bytes: u64) -> Result<Length, Refusal> {
-        if bytes > LONGEST {
+    /// Refusal 2: the record has more than 8,127 bits.
+    pub fn new(bits: u64) -> Result<Length, Refusal> {
+        if bits > LONGEST {
             return Err(Refusal::Length);
         }
-        Ok(Length(bytes as usize))
+        Ok(Length(bits as usize))
     }
 
-    /// The length of a lent record, refused in the same way.
-    pub fn of(record: &[u8]) -> Result<Length, Refusal> {
-        Length::new(record.len() as u64)
-    }
-
-    pub fn bytes(self) -> usize {
+    pub fn bits(self) -> usize {
         self.0
     }
 
-    /// "Blocks n = floor((L + 8) / 64) + 1."
+    /// The bytes that hold a record: "the bits over 8 rounded up".
+    pub fn record_bytes(self) -> usize {
+        self.0.div_ceil(8)
+    }
+
+    /// "Blocks are floor((bits + 64) / 512) + 1."
     pub fn blocks(self) -> usize {
-        (self.0 + 8) / 64 + 1
+        (self.0 + 64) / 512 + 1
     }
 
     /// "Wires in all: 513 + 22,528 × n."

@@ -1,12 +1,13 @@
 //! An outside judge for the paper "SM3 record rows over the prime 2^61 - 1".
 //!
-//! Everything here was written from that paper alone and from the first of its
-//! change requests, "Packed assignments", but `steps`, whose program has its
-//! format from docs/STEPS.md. Sentences of the papers are quoted in the
+//! Everything here was written from that paper alone and from the first two of
+//! its change requests, "Packed assignments" and "Lengths in bits", but `steps`,
+//! whose program has its format from docs/STEPS.md. Sentences of the papers are quoted in the
 //! comments beside the code that follows them.
 //!
 //! * `sm3`: the hash, and every word it computes on the way ("SM3 as used").
 //! * `length`: lengths in range and the counts of blocks, wires and rows.
+//! * `record`: bit strings, and the bytes that they are handed over in.
 //! * `layout`: the wires of a record, from the record alone ("Wires",
 //!   "The words of demand 3").
 //! * `forms`: the row forms ("Rows", its list of equations).
@@ -17,7 +18,7 @@
 //! * `packed`: the input and the output of the program `packed`.
 //! * `listing`: the input line and the output of the program `rows`.
 //! * `steps`: the output of the program `steps`, which step a row stands for.
-//! * `refusal`: the twelve refusals. `field`: numbers modulo p. `bits`: the
+//! * `refusal`: the fourteen refusals. `field`: numbers modulo p. `bits`: the
 //!   bits of bytes.
 
 #![forbid(unsafe_code)]
@@ -32,6 +33,7 @@ pub mod listing;
 pub mod operations;
 pub mod packed;
 pub mod packing;
+pub mod record;
 pub mod refusal;
 pub mod rows;
 pub mod sm3;

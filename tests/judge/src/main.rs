@@ -2,8 +2,9 @@
 //! prints what that program must print.
 //! `judge steps`: the same for the program `steps`.
 //! `judge packed`: the same for the program `packed`, its line and bytes.
-//! `judge digest`: the digest of the bytes on standard input, in hexadecimal.
-//! `judge counts L`: blocks, wires and rows of a record length.
+//! `judge digest BITS`: the digest, in hexadecimal, of the record of so many
+//! bits whose bytes are on standard input; without BITS, of all their bits.
+//! `judge counts BITS`: blocks, wires and rows of a record length.
 
 use std::io::{self, Read, Write};
 use std::process::ExitCode;
@@ -15,7 +16,7 @@ use judge::refusal::Refusal;
 use judge::{packed, steps};
 
 const USAGE: &str =
-    "usage: judge rows | judge steps | judge packed | judge digest | judge counts L";
+    "usage: judge rows | judge steps | judge packed | judge digest [BITS] | judge counts BITS";
 
 fn standard_input() -> io::Result<Vec<u8>> {
     let mut bytes = Vec::new();
@@ -23,9 +24,9 @@ fn standard_input() -> io::Result<Vec<u8>> {
     Ok(bytes)
 }
 
-fn digest_text(record: &[u8]) -> Result<String, Refusal> {
+fn digest_text(length: u64, record: &[u8]) -> Result<String, Refusal> {
     let mut digest = [0; 32];
-    operations::digest(record, &mut digest)?;
+    operations::digest(length, record, &mut digest)?;
     let hex: String = digest.iter().map(|byte| format!("{byte:02x}")).collect();
     Ok(hex + "\n")
 }
@@ -36,6 +37,14 @@ fn counts_text(length: u64) -> Result<String, Refusal> {
     Ok(format!("blocks,{blocks}\nwires,{wires}\nrows,{rows}\n"))
 }
 
+/// The digest of the record on standard input; without a length, its bytes
+/// are whole ones.
+fn digest(length: Option<u64>) -> io::Result<String> {
+    let record = standard_input()?;
+    let length = length.unwrap_or(8 * record.len() as u64);
+    Ok(digest_text(length, &record).unwrap_or_else(refused))
+}
+
 /// The text to print, or `None` when the arguments are not understood.
 fn answer(arguments: &[String]) -> io::Result<Option<String>> {
     let words: Vec<&str> = arguments.iter().map(String::as_str).collect();
@@ -43,7 +52,11 @@ fn answer(arguments: &[String]) -> io::Result<Option<String>> {
         ["rows"] => listing(&standard_input()?),
         ["steps"] => steps::listing(&standard_input()?),
         ["packed"] => packed::answer(&standard_input()?),
-        ["digest"] => digest_text(&standard_input()?).unwrap_or_else(refused),
+        ["digest"] => digest(None)?,
+        ["digest", length] => match length.parse() {
+            Ok(length) => digest(Some(length))?,
+            Err(_) => return Ok(None),
+        },
         ["counts", length] => match length.parse() {
             Ok(length) => counts_text(length).unwrap_or_else(refused),
             Err(_) => return Ok(None),

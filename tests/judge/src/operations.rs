@@ -5,6 +5,7 @@
 use crate::forms::{Row, RowNumber, RowTable, Term};
 use crate::layout;
 use crate::length::Length;
+use crate::record::Record;
 use crate::refusal::Refusal;
 use crate::rows;
 use crate::sm3;
@@ -22,20 +23,20 @@ pub(crate) fn long_enough(buffer: &[u8], bytes: usize) -> Result<(), Refusal> {
     Ok(())
 }
 
-/// The digest of a record into the first 32 bytes: refusals 2, 4.
-pub fn digest(record: &[u8], buffer: &mut [u8]) -> Result<(), Refusal> {
-    Length::of(record)?;
+/// The digest of a record into the first 32 bytes: refusals 2, 13, 14, 4.
+pub fn digest(length: u64, record: &[u8], buffer: &mut [u8]) -> Result<(), Refusal> {
+    let record = Record::new(length, record)?;
     long_enough(buffer, DIGEST_BYTES)?;
-    buffer[..DIGEST_BYTES].copy_from_slice(&sm3::hash(record));
+    buffer[..DIGEST_BYTES].copy_from_slice(&sm3::hash(&record));
     Ok(())
 }
 
 /// The whole assignment for a record into the first 8 × wires bytes:
-/// refusals 2, 4.
-pub fn produce(record: &[u8], buffer: &mut [u8]) -> Result<(), Refusal> {
-    let length = Length::of(record)?;
-    long_enough(buffer, length.assignment_bytes())?;
-    buffer[..length.assignment_bytes()].copy_from_slice(&layout::assignment(record));
+/// refusals 2, 13, 14, 4.
+pub fn produce(length: u64, record: &[u8], buffer: &mut [u8]) -> Result<(), Refusal> {
+    let record = Record::new(length, record)?;
+    long_enough(buffer, record.length().assignment_bytes())?;
+    layout::write_assignment(&record, buffer);
     Ok(())
 }
 

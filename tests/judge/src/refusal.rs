@@ -1,6 +1,6 @@
-//! "Refusals in checking order", and those that packing adds. Each has a
-//! number. Two carry more: 9 "the lowest row that is not satisfied", and 10 the
-//! "lowest wire".
+//! "Refusals in checking order", those that packing adds, and the two that
+//! lengths in bits add. Each has a number. Two carry more: 9 "the lowest row that
+//! is not satisfied", and 10 the "lowest wire".
 
 use crate::forms::{RowNumber, Wire};
 
@@ -8,7 +8,7 @@ use crate::forms::{RowNumber, Wire};
 pub enum Refusal {
     /// 1. The program's line is not of the right shape.
     Line,
-    /// 2. The record length is above 1,015.
+    /// 2. The record length is above 8,127 bits.
     Length,
     /// 3. The row number is not below the row count.
     Row,
@@ -30,6 +30,10 @@ pub enum Refusal {
     PackedBytes,
     /// 12. A spare bit is set.
     SpareBit,
+    /// 13. The record's bytes are not the bits over 8 rounded up.
+    RecordBytes,
+    /// 14. A bit after the last record bit is set.
+    BitAfterRecord,
 }
 
 impl Refusal {
@@ -48,6 +52,8 @@ impl Refusal {
             Refusal::NoBit(_) => 10,
             Refusal::PackedBytes => 11,
             Refusal::SpareBit => 12,
+            Refusal::RecordBytes => 13,
+            Refusal::BitAfterRecord => 14,
         }
     }
 }

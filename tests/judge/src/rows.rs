@@ -16,7 +16,7 @@ fn turn(word: &Word, by: usize) -> Word {
 /// A bit of the message: `None` for a bit of the record, else its value by
 /// "one bit 1, zeros, then the bit length in 64 bits, highest first".
 fn padding_bit(length: Length, bit: usize) -> Option<bool> {
-    let record_bits = 8 * length.bytes();
+    let record_bits = length.bits();
     let length_field = 512 * length.blocks() - 64;
     if bit < record_bits {
         None
@@ -222,16 +222,17 @@ pub fn block_bit_rows(length: Length, block: usize) -> RowTable {
 mod tests {
     use super::*;
     use crate::forms::RowNumber;
+    use crate::record::Record;
 
     #[test]
     fn block_bit_rows_are_rows_of_the_table() {
-        for bytes in [0, 13, 55, 56, 119, 500, 1015] {
-            let length = Length::new(bytes).unwrap();
+        for bits in [0, 1, 104, 440, 447, 448, 959, 4001, 8120, 8127] {
+            let length = Length::new(bits).unwrap();
             let all = rows(length);
             for block in 0..length.blocks() {
                 let first = 256 + 32_320 * block as u32;
                 for (number, row) in block_bit_rows(length, block).iter() {
-                    assert_eq!(row, all.row(RowNumber(first + number.0)), "L {bytes}");
+                    assert_eq!(row, all.row(RowNumber(first + number.0)), "{bits} bits");
                 }
             }
         }
@@ -239,13 +240,14 @@ mod tests {
 
     #[test]
     fn padding_bits_are_those_of_the_padded_message() {
-        for bytes in 0..=1015 {
-            let length = Length::new(bytes as u64).unwrap();
-            let message = sm3::pad(&vec![0xff; bytes]);
-            for bit in 0..512 * length.blocks() {
+        for bits in 0..=8127 {
+            let record = Record::front(bits as u64, &[0xff; 1016]).unwrap();
+            let message = sm3::pad(&record);
+            for bit in 0..8 * message.len() {
                 let of_message = message[bit / 8] >> (7 - bit % 8) & 1 == 1;
-                let expected = (bit >= 8 * bytes).then_some(of_message);
-                assert_eq!(padding_bit(length, bit), expected, "L {bytes} bit {bit}");
+                let expected = (bit >= bits).then_some(of_message);
+                let padding = padding_bit(record.length(), bit);
+                assert_eq!(padding, expected, "{bits} bits, bit {bit}");
             }
         }
     }

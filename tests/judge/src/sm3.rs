@@ -3,6 +3,8 @@
 //! A block's compression keeps every word that the paper names, so that the
 //! layout can lay the words out without computing anything a second time.
 
+use crate::record::Record;
+
 pub type Words = [u32; 8];
 
 /// "Start words (hexadecimal)".
@@ -28,13 +30,14 @@ pub fn p1(x: u32) -> u32 {
 }
 
 /// The record with its padding: "one bit 1, zeros, then the bit length in 64
-/// bits, highest first", which fills n blocks of 64 bytes.
-pub fn pad(record: &[u8]) -> Vec<u8> {
-    let blocks = (record.len() + 8) / 64 + 1;
-    let mut message = record.to_vec();
-    message.push(0x80);
+/// bits, highest first", which fills n blocks of 64 bytes. The bit 1 follows
+/// the last record bit at once, in the same byte where that has room.
+pub fn pad(record: &Record) -> Vec<u8> {
+    let (bits, blocks) = (record.bits(), record.length().blocks());
+    let mut message = record.bytes().to_vec();
     message.resize(64 * blocks - 8, 0);
-    message.extend_from_slice(&(8 * record.len() as u64).to_be_bytes());
+    message[bits / 8] |= 0x80 >> (bits % 8);
+    message.extend_from_slice(&(bits as u64).to_be_bytes());
     message
 }
 
@@ -208,8 +211,8 @@ pub fn words_to_bytes(words: &Words) -> [u8; 32] {
     std::array::from_fn(|k| words[k / 4].to_be_bytes()[k % 4])
 }
 
-/// The digest of any bytes: "the last result is the digest".
-pub fn hash(record: &[u8]) -> [u8; 32] {
+/// The digest of a record: "the last result is the digest".
+pub fn hash(record: &Record) -> [u8; 32] {
     let mut state = START;
     for block in pad(record).chunks_exact(64) {
         state = compress(&state, block).result;
@@ -220,6 +223,7 @@ pub fn hash(record: &[u8]) -> [u8; 32] {
 #[cfg(test)]
 mod tests {
     use super::*;
+    use crate::bits::bit;
 
     fn hex(bytes: &[u8]) -> String {
         bytes.iter().map(|byte| format!("{byte:02x}")).collect()
@@ -228,28 +232,46 @@ mod tests {
     #[test]
     fn first_example_of_the_standard() {
         let expected = "66c7f0f462eeedd9d1f2d46bdc10e4e24167c4875cf2f7a2297da02b8f4ba8e0";
-        assert_eq!(hex(&hash(b"abc")), expected);
+        let record = Record::new(24, b"abc").unwrap();
+        assert_eq!(hex(&hash(&record)), expected);
     }
 
     #[test]
     fn second_example_of_the_standard() {
         let expected = "debe9ff92275b8a138604889c18e5a4d6fdb70e5387e5765293dcba39c0c5732";
-        assert_eq!(hex(&hash(&b"abcd".repeat(16))), expected);
+        let record = Record::new(512, &b"abcd".repeat(16)).unwrap();
+        assert_eq!(hex(&hash(&record)), expected);
+    }
+
+    /// All bits of a message, from the first.
+    fn bits_of(message: &[u8]) -> Vec<u64> {
+        (0..8 * message.len()).map(|k| bit(message, k)).collect()
     }
 
     #[test]
     fn padding_fills_whole_blocks() {
-        for length in 0..=1015 {
-            let record = vec![0xff; length];
-            let message = pad(&record);
-            assert_eq!(message.len(), 64 * ((length + 8) / 64 + 1));
-            assert_eq!(message[..length], record[..]);
-            assert_eq!(message[length], 0x80);
+        for bits in 0..=8127 {
+            let message = pad(&Record::front(bits as u64, &[0xff; 1016]).unwrap());
+            assert_eq!(message.len(), 64 * ((bits + 64) / 512 + 1));
             let end = message.len() - 8;
-            assert!(message[length + 1..end].iter().all(|&byte| byte == 0));
-            assert_eq!(message[end..], (8 * length as u64).to_be_bytes());
+            assert_eq!(message[end..], (bits as u64).to_be_bytes());
+            let before = bits_of(&message[..end]);
+            assert!(before[..bits].iter().all(|&bit| bit == 1));
+            assert_eq!(before[bits], 1);
+            assert!(before[bits + 1..].iter().all(|&bit| bit == 0));
             // Shorter by a block, the padding would not have found room.
-            assert!(message.len() < length + 1 + 8 + 64);
+            assert!(8 * message.len() < bits + 1 + 64 + 512);
         }
+    }
+
+    #[test]
+    fn padding_begins_inside_a_byte() {
+        let message = pad(&Record::new(3, &[0xa0]).unwrap());
+        assert_eq!(message[..2], [0xb0, 0x00]);
+        assert_eq!(message[56..], [0, 0, 0, 0, 0, 0, 0, 3]);
+        let message = pad(&Record::new(7, &[0x00]).unwrap());
+        assert_eq!(message[..2], [0x01, 0x00]);
+        let message = pad(&Record::new(8, &[0x00]).unwrap());
+        assert_eq!(message[..2], [0x00, 0x80]);
     }
 }

@@ -89,10 +89,10 @@ impl Walk {
     }
 
     /// "The block's words W0 to W15: record bits, then padding." The record's
-    /// are "those before bit 8 × L of the message".
+    /// are those before the message's bit that has the length's number.
     fn message(&mut self, length: Length, block: usize) {
         for bit in 0..512 {
-            let of_record = 512 * block + bit < 8 * length.bytes();
+            let of_record = 512 * block + bit < length.bits();
             let form = if of_record { Form::Bit } else { Form::Fixed };
             self.row("message", bit / 32, Some(bit % 32), form);
         }

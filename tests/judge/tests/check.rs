@@ -7,6 +7,7 @@ use judge::check::{check, check_with};
 use judge::field::P;
 use judge::forms::{RowNumber, RowTable};
 use judge::length::Length;
+use judge::record::Record;
 use judge::refusal::Refusal;
 use judge::{layout, rows, sm3};
 use support::{entry, holds, length, lowest_with_wire, record, set_entry, LENGTHS};
@@ -19,11 +20,11 @@ struct Case {
     digest: [u8; 32],
 }
 
-fn case(bytes: u64) -> Case {
-    let record = record(bytes, 11);
+fn case(bits: u64) -> Case {
+    let record = record(bits, 11);
     Case {
-        length: length(bytes),
-        table: rows::rows(length(bytes)),
+        length: length(bits),
+        table: rows::rows(length(bits)),
         assignment: layout::assignment(&record),
         digest: sm3::hash(&record),
     }
@@ -50,55 +51,52 @@ fn unsatisfied(row: u32) -> Result<(), Refusal> {
 
 #[test]
 fn layouts_are_accepted() {
-    for bytes in LENGTHS {
-        let record = record(bytes, 3);
+    for bits in LENGTHS {
+        let record = record(bits, 3);
         let assignment = layout::assignment(&record);
-        assert_eq!(
-            check(bytes, &assignment, &sm3::hash(&record)),
-            Ok(()),
-            "L {bytes}"
-        );
+        let answer = check(bits, &assignment, &sm3::hash(&record));
+        assert_eq!(answer, Ok(()), "{bits} bits");
     }
 }
 
 #[test]
 fn refusals_come_in_order() {
-    let good = case(1);
+    let good = case(8);
     let (long, short) = (vec![0; good.assignment.len() + 8], &good.assignment[8..]);
     // Everything wrong at once, then one thing mended after another.
-    assert_eq!(check(1016, &long, &[0; 31]), Err(Refusal::Length));
-    assert_eq!(check(1, &long, &[0; 31]), Err(Refusal::DigestBytes));
-    assert_eq!(check(1, &long, &[0; 33]), Err(Refusal::DigestBytes));
-    assert_eq!(check(1, &long, &[]), Err(Refusal::DigestBytes));
-    assert_eq!(check(1, &long, &[1; 32]), Err(Refusal::AssignmentBytes));
-    assert_eq!(check(1, short, &[1; 32]), Err(Refusal::AssignmentBytes));
-    assert_eq!(check(1, &[], &[1; 32]), Err(Refusal::AssignmentBytes));
+    assert_eq!(check(8128, &long, &[0; 31]), Err(Refusal::Length));
+    assert_eq!(check(8, &long, &[0; 31]), Err(Refusal::DigestBytes));
+    assert_eq!(check(8, &long, &[0; 33]), Err(Refusal::DigestBytes));
+    assert_eq!(check(8, &long, &[]), Err(Refusal::DigestBytes));
+    assert_eq!(check(8, &long, &[1; 32]), Err(Refusal::AssignmentBytes));
+    assert_eq!(check(8, short, &[1; 32]), Err(Refusal::AssignmentBytes));
+    assert_eq!(check(8, &[], &[1; 32]), Err(Refusal::AssignmentBytes));
     let mut assignment = vec![0xff; good.assignment.len()];
-    assert_eq!(check(1, &assignment, &[1; 32]), Err(Refusal::WireZero));
+    assert_eq!(check(8, &assignment, &[1; 32]), Err(Refusal::WireZero));
     set_entry(&mut assignment, 0, P + 1);
-    assert_eq!(check(1, &assignment, &[1; 32]), Err(Refusal::DigestWire));
+    assert_eq!(check(8, &assignment, &[1; 32]), Err(Refusal::DigestWire));
     assignment[8..8 * 257].copy_from_slice(&good.assignment[8..8 * 257]);
-    assert_eq!(check(1, &assignment, &[1; 32]), Err(Refusal::DigestWire));
-    assert_eq!(check(1, &assignment, &good.digest), unsatisfied(0));
+    assert_eq!(check(8, &assignment, &[1; 32]), Err(Refusal::DigestWire));
+    assert_eq!(check(8, &assignment, &good.digest), unsatisfied(0));
     assert_eq!(good.check(), Ok(()));
 }
 
 #[test]
 fn an_assignment_of_another_block_count_is_refusal_6() {
-    let good = case(55);
+    let good = case(447);
     assert_eq!(
-        check(56, &good.assignment, &good.digest),
+        check(448, &good.assignment, &good.digest),
         Err(Refusal::AssignmentBytes)
     );
-    // Same block count, other padding: the first padding wire of L 54 is a
-    // record wire at L 55, so the rows decide.
-    let answer = check(54, &good.assignment, &good.digest);
+    // Same block count, other padding: the first padding wire of 446 bits is
+    // a record wire at 447, so the rows decide.
+    let answer = check(446, &good.assignment, &good.digest);
     assert!(matches!(answer, Err(Refusal::Unsatisfied(_))));
 }
 
 #[test]
 fn entries_are_read_modulo_p() {
-    let mut good = case(3);
+    let mut good = case(27);
     for wire in 0..good.length.wires() {
         let value = entry(&good.assignment, wire);
         set_entry(&mut good.assignment, wire, value + P * (wire as u64 % 8));
@@ -110,7 +108,7 @@ fn entries_are_read_modulo_p() {
 
 #[test]
 fn wire_0_and_digest_wires() {
-    let mut good = case(2);
+    let mut good = case(15);
     for value in [0, 2, P, u64::MAX] {
         assert_eq!(good.with(0, value), Err(Refusal::WireZero));
     }
@@ -123,7 +121,7 @@ fn wire_0_and_digest_wires() {
 
 #[test]
 fn digest_and_digest_wires_changed_together_meet_the_closing_rows() {
-    let mut good = case(56);
+    let mut good = case(448);
     for number in [0, 1, 100, 255] {
         let mut digest = good.digest;
         digest[number / 8] ^= 0x80 >> (number % 8);
@@ -137,7 +135,7 @@ fn digest_and_digest_wires_changed_together_meet_the_closing_rows() {
 
 #[test]
 fn lowest_rows_worked_by_hand() {
-    let mut good = case(1);
+    let mut good = case(8);
     let flipped = |good: &Case, wire| 1 - entry(&good.assignment, wire);
     // A start wire and a padding wire have fixed rows.
     assert_eq!(good.with(257, flipped(&good, 257)), unsatisfied(0));
@@ -152,7 +150,7 @@ fn lowest_rows_worked_by_hand() {
 
 #[test]
 fn of_two_damages_the_lower_row_is_returned() {
-    let mut good = case(56);
+    let mut good = case(448);
     let (late, early) = (40_000, 9_000);
     let late_value = 5 + entry(&good.assignment, late);
     let late_alone = good.with(late, late_value);
@@ -166,8 +164,8 @@ fn of_two_damages_the_lower_row_is_returned() {
 
 /// Damages every `step`-th wire past the digest, as another bit and as a
 /// number that is no bit, and compares with the test's own evaluation.
-fn damage_wires(bytes: u64, step: usize) {
-    let mut good = case(bytes);
+fn damage_wires(bits: u64, step: usize) {
+    let mut good = case(bits);
     for wire in (257..good.length.wires()).step_by(step) {
         let before = entry(&good.assignment, wire);
         for value in [1 - before, before + (1 << 60)] {
@@ -186,26 +184,29 @@ fn damage_wires(bytes: u64, step: usize) {
 
 #[test]
 fn damaged_wires_of_one_block() {
-    damage_wires(9, 101);
+    damage_wires(75, 101);
 }
 
 #[test]
 fn damaged_wires_of_two_blocks() {
-    damage_wires(100, 463);
+    damage_wires(800, 463);
 }
 
 #[test]
 fn damaged_wires_of_sixteen_blocks() {
-    damage_wires(1015, 36_007);
+    damage_wires(8127, 36_007);
 }
 
 #[test]
 fn another_record_of_the_same_length_has_another_digest() {
-    let (one, two) = (layout::assignment(&[1; 64]), layout::assignment(&[2; 64]));
-    let (digest_one, digest_two) = (sm3::hash(&[1; 64]), sm3::hash(&[2; 64]));
-    assert_eq!(check(64, &one, &digest_one), Ok(()));
-    assert_eq!(check(64, &two, &digest_two), Ok(()));
-    assert_eq!(check(64, &one, &digest_two), Err(Refusal::DigestWire));
+    for bits in [511, 512] {
+        let records = [4, 5].map(|seed| record(bits, seed));
+        let [one, two] = records.each_ref().map(layout::assignment);
+        let [digest_one, digest_two] = records.each_ref().map(sm3::hash);
+        assert_eq!(check(bits, &one, &digest_one), Ok(()));
+        assert_eq!(check(bits, &two, &digest_two), Ok(()));
+        assert_eq!(check(bits, &one, &digest_two), Err(Refusal::DigestWire));
+    }
 }
 
 #[test]
@@ -261,8 +262,17 @@ fn trap_carries_need_bit_rows() {
 fn trap_padding_is_not_free() {
     // The wires of a two byte record at a length of one: all rows of words
     // hold, but the padding is that of another length.
-    let record = [0x61, 0x80];
-    let answer = check(1, &layout::assignment(&record), &sm3::hash(&record));
+    let record = Record::whole(&[0x61, 0x80]).unwrap();
+    let answer = check(8, &layout::assignment(&record), &sm3::hash(&record));
     // Byte 1 is 0x80 in both; byte 2 is 0x80 only in the longer one.
     assert_eq!(answer, unsatisfied(256 + 16));
+    // The same inside one byte: five bits 10110 at a length of three. Bit 3 is
+    // 1 in both; bit 5 is 1 only in the longer one.
+    let record = Record::new(5, &[0b10110000]).unwrap();
+    let answer = check(3, &layout::assignment(&record), &sm3::hash(&record));
+    assert_eq!(answer, unsatisfied(256 + 5));
+    // Two bits at a length of three: bit 3 must be 1.
+    let record = Record::new(2, &[0b10000000]).unwrap();
+    let answer = check(3, &layout::assignment(&record), &sm3::hash(&record));
+    assert_eq!(answer, unsatisfied(256 + 3));
 }

@@ -11,21 +11,40 @@ use support::{length, plain};
 
 #[test]
 fn blocks_of_lengths() {
-    let figures = [(0, 1), (55, 1), (56, 2), (119, 2), (120, 3), (1015, 16)];
-    for (bytes, blocks) in figures {
-        assert_eq!(length(bytes).blocks(), blocks, "L {bytes}");
+    // The paper's lengths in bytes, and the last and the first bit counts of
+    // a number of blocks.
+    let bytes = [(0, 1), (55, 1), (56, 2), (119, 2), (120, 3), (1015, 16)];
+    for (bytes, blocks) in bytes {
+        assert_eq!(length(8 * bytes).blocks(), blocks, "{bytes} bytes");
     }
-    assert_eq!(Length::new(1016), Err(Refusal::Length));
-    assert_eq!(Length::new(u64::MAX), Err(Refusal::Length));
+    let bits = [(447, 1), (448, 2), (959, 2), (960, 3), (8127, 16)];
+    for (bits, blocks) in bits {
+        assert_eq!(length(bits).blocks(), blocks, "{bits} bits");
+    }
+    for bits in [8128, 1 << 32, (1 << 61) + 3, u64::MAX - 6, u64::MAX] {
+        assert_eq!(Length::new(bits), Err(Refusal::Length), "{bits} bits");
+    }
+}
+
+#[test]
+fn lengths_in_whole_bytes_keep_their_counts() {
+    for bytes in 0..=1015 {
+        let blocks = (bytes + 8) / 64 + 1;
+        let length = length(8 * bytes as u64);
+        assert_eq!(length.blocks(), blocks, "{bytes} bytes");
+        assert_eq!(length.record_bytes(), bytes);
+        assert_eq!(length.wires(), 513 + 22_528 * blocks);
+        assert_eq!(length.rows(), 512 + 32_320 * blocks);
+    }
 }
 
 #[test]
 fn wires_and_rows_of_lengths() {
     assert_eq!((length(0).wires(), length(0).rows()), (23_041, 32_832));
-    assert_eq!(
-        (length(1015).wires(), length(1015).rows()),
-        (360_961, 517_632)
-    );
+    for bits in [8120, 8127] {
+        let length = length(bits);
+        assert_eq!((length.wires(), length.rows()), (360_961, 517_632));
+    }
 }
 
 #[test]
@@ -47,12 +66,15 @@ fn permutations_and_turned_constants() {
 
 #[test]
 fn row_256_at_lengths_0_and_1() {
+    // The paper's L 1 is 8 bits; at 1 bit the wire is the record's too.
     let fixed = rows::rows(length(0));
     let expected = [vec![(513, 1)], vec![(0, 1)], vec![(0, 1)]];
     assert_eq!(plain(fixed.row(RowNumber(256))), expected);
-    let bit = rows::rows(length(1));
     let expected = [vec![(513, 1)], vec![(0, P - 1), (513, 1)], vec![]];
-    assert_eq!(plain(bit.row(RowNumber(256))), expected);
+    for bits in [1, 8] {
+        let bit = rows::rows(length(bits));
+        assert_eq!(plain(bit.row(RowNumber(256))), expected);
+    }
 }
 
 #[test]

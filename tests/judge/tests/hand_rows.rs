@@ -1,5 +1,5 @@
-//! Rows worked out by hand from "Wires" and "Rows", by closed sums, at L 0
-//! and L 56. They hold the walk's numbering down from another side.
+//! Rows worked out by hand from "Wires" and "Rows", by closed sums, at 0, 448
+//! and 450 bits. They hold the walk's numbering down from another side.
 
 mod support;
 
@@ -8,8 +8,8 @@ use judge::forms::RowNumber;
 use judge::rows;
 use support::{length, plain, Plain};
 
-fn row(bytes: u64, number: u32) -> Plain {
-    plain(rows::rows(length(bytes)).row(RowNumber(number)))
+fn row(bits: u64, number: u32) -> Plain {
+    plain(rows::rows(length(bits)).row(RowNumber(number)))
 }
 
 // Of block 0, by the list in "Wires": where each kind of wire begins.
@@ -170,16 +170,41 @@ fn result_rows_of_both_blocks_and_the_digest_rows() {
     // start words. The first position of the third result word:
     let (x, y, r) = (round(61) + TT1 + 9, 257 + 64, RESULT + 64);
     let c = vec![(y, 1), (x, 1), (r, P - 1)];
-    assert_eq!(row(56, RESULT_ROWS + 64), [vec![(x, 2)], vec![(y, 1)], c]);
+    assert_eq!(row(448, RESULT_ROWS + 64), [vec![(x, 2)], vec![(y, 1)], c]);
     // Block 1 began with the result of block 0.
     let (x, y, r) = (x + 22_528, RESULT + 64, r + 22_528);
     let c = vec![(y, 1), (x, 1), (r, P - 1)];
     assert_eq!(
-        row(56, 32_320 + RESULT_ROWS + 64),
+        row(448, 32_320 + RESULT_ROWS + 64),
         [vec![(x, 2)], vec![(y, 1)], c]
     );
     // The digest is the last result.
     let last = 256 + 2 * 32_320 + 255;
     let a = vec![(256, 1), (RESULT + 22_528 + 255, P - 1)];
-    assert_eq!(row(56, last), [a, vec![(0, 1)], vec![]]);
+    assert_eq!(row(448, last), [a, vec![(0, 1)], vec![]]);
+}
+
+#[test]
+fn block_bits_where_a_record_ends_inside_a_byte() {
+    // 450 bits, two blocks: bit 449 is the record's, bit 450 the padding's 1,
+    // the rest of block 0 zeros; block 1 ends with 450, binary 111000010.
+    let table = rows::rows(length(450));
+    let row = |number| plain(table.row(RowNumber(number)));
+    let bit = |wire| [vec![(wire, 1)], vec![(0, P - 1), (wire, 1)], vec![]];
+    let fixed = |wire, value: u64| {
+        let c = if value == 1 { vec![(0, 1)] } else { vec![] };
+        [vec![(wire, 1)], vec![(0, 1)], c]
+    };
+    assert_eq!(row(256 + 449), bit(BLOCK + 449));
+    assert_eq!(row(256 + 450), fixed(BLOCK + 450, 1));
+    for k in 451..512 {
+        assert_eq!(row(256 + k), fixed(BLOCK + k, 0));
+    }
+    let (rows, wires) = (256 + 32_320, BLOCK + 22_528);
+    for k in 0..503 {
+        assert_eq!(row(rows + k), fixed(wires + k, 0));
+    }
+    for (k, value) in (503..512).zip([1, 1, 1, 0, 0, 0, 0, 1, 0]) {
+        assert_eq!(row(rows + k), fixed(wires + k, value));
+    }
 }

@@ -59,10 +59,10 @@ fn lines_that_are_refusal_1() {
         b"0,0,\xb2\n",
         b"01,0,2\n",
         // The faults of refusals 2 and 3 besides.
-        b"1016,0,0",
-        b"1016,00,0\n",
+        b"8128,0,0",
+        b"8128,00,0\n",
         b"0,32833,0\n\n",
-        b"1016,999999999,1000000000\n",
+        b"8128,999999999,1000000000\n",
     ];
     for line in lines {
         assert_refused(line, "refused,1\n");
@@ -72,9 +72,9 @@ fn lines_that_are_refusal_1() {
 #[test]
 fn refusals_2_and_3() {
     for line in [
-        "1016,0,0\n",
+        "8128,0,0\n",
         "999999999,999999999,999999999\n",
-        "1016,999999999,0\n",
+        "8128,999999999,0\n",
     ] {
         assert_refused(line.as_bytes(), "refused,2\n");
     }
@@ -83,9 +83,9 @@ fn refusals_2_and_3() {
         "0,32831,2\n",
         "0,0,32833\n",
         "0,32833,0\n",
-        "1015,517632,1\n",
-        "1015,517631,2\n",
-        "1015,999999999,999999999\n",
+        "8127,517632,1\n",
+        "8127,517631,2\n",
+        "8127,999999999,999999999\n",
     ] {
         assert_refused(line.as_bytes(), "refused,3\n");
     }
@@ -93,7 +93,7 @@ fn refusals_2_and_3() {
 
 #[test]
 fn how_many_may_be_0() {
-    for line in ["0,0,0\n", "0,32832,0\n", "1015,517632,0\n", "1015,5,0\n"] {
+    for line in ["0,0,0\n", "0,32832,0\n", "8120,517632,0\n", "8127,5,0\n"] {
         assert_eq!(listing(line.as_bytes()), HEADER, "{line}");
     }
 }
@@ -106,8 +106,8 @@ fn the_last_row_of_length_0() {
 
 #[test]
 fn a_whole_listing_reads_back_as_the_rows() {
-    let table = rows::rows(length(1));
-    let text = listing(b"1,0,32832\n");
+    let table = rows::rows(length(13));
+    let text = listing(b"13,0,32832\n");
     assert!(text.ends_with('\n'));
     let mut lines = text.lines();
     assert_eq!(lines.next(), Some(HEADER.trim_end()));
@@ -128,14 +128,32 @@ fn a_whole_listing_reads_back_as_the_rows() {
 fn the_binary() {
     assert_eq!(run(&["rows"], b"0,0,2\n"), listing(b"0,0,2\n"));
     assert_eq!(run(&["rows"], b"0,0,2"), "refused,1\n");
-    assert_eq!(run(&["steps"], b"1,255,4\n"), steps::listing(b"1,255,4\n"));
-    assert_eq!(run(&["steps"], b"1,255,4"), "refused,1\n");
+    assert_eq!(run(&["steps"], b"8,255,4\n"), steps::listing(b"8,255,4\n"));
+    assert_eq!(run(&["steps"], b"8,255,4"), "refused,1\n");
     let abc = "66c7f0f462eeedd9d1f2d46bdc10e4e24167c4875cf2f7a2297da02b8f4ba8e0\n";
     assert_eq!(run(&["digest"], b"abc"), abc);
+    assert_eq!(run(&["digest", "24"], b"abc"), abc);
     assert_eq!(run(&["digest"], &[0; 1016]), "refused,2\n");
     assert_eq!(
         run(&["counts", "0"], b""),
         "blocks,1\nwires,23041\nrows,32832\n"
     );
-    assert_eq!(run(&["counts", "1016"], b""), "refused,2\n");
+    assert_eq!(
+        run(&["counts", "448"], b""),
+        "blocks,2\nwires,45569\nrows,65152\n"
+    );
+    assert_eq!(run(&["counts", "8128"], b""), "refused,2\n");
+}
+
+#[test]
+fn the_binary_takes_a_digest_of_bits() {
+    assert_eq!(run(&["digest", "8128"], &[0; 1016]), "refused,2\n");
+    for bits in ["0", "16", "25"] {
+        assert_eq!(run(&["digest", bits], b"abc"), "refused,13\n", "{bits}");
+    }
+    // The last byte, 0x63, ends with two bits 1.
+    for bits in ["22", "23"] {
+        assert_eq!(run(&["digest", bits], b"abc"), "refused,14\n", "{bits}");
+    }
+    assert_eq!(run(&["digest", "23"], b"abb").len(), 65);
 }

@@ -5,47 +5,102 @@ mod support;
 use judge::operations::{digest, produce, row, row_with, Counts, ROW_BYTES};
 use judge::refusal::Refusal;
 use judge::{layout, rows, sm3};
-use support::{length, record, untouched, LENGTHS, OLD};
+use support::{entry, length, record, untouched, LENGTHS, OLD};
 
 #[test]
 fn digest_writes_32_bytes() {
-    for bytes in LENGTHS {
-        let record = record(bytes, 5);
+    for bits in LENGTHS {
+        let record = record(bits, 5);
         let mut buffer = [OLD; 40];
-        assert_eq!(digest(&record, &mut buffer), Ok(()));
+        assert_eq!(digest(bits, record.bytes(), &mut buffer), Ok(()));
         assert_eq!(buffer[..32], sm3::hash(&record));
         assert!(untouched(&buffer[32..]));
-        assert_eq!(digest(&record, &mut buffer[..32]), Ok(()));
+        assert_eq!(digest(bits, record.bytes(), &mut buffer[..32]), Ok(()));
     }
-}
-
-#[test]
-fn digest_refusals() {
-    let mut buffer = [OLD; 31];
-    assert_eq!(digest(&[0; 1016], &mut buffer), Err(Refusal::Length));
-    assert_eq!(digest(&[0; 1015], &mut buffer), Err(Refusal::Buffer));
-    assert_eq!(digest(&[], &mut []), Err(Refusal::Buffer));
-    assert!(untouched(&buffer));
 }
 
 #[test]
 fn produce_writes_the_layout() {
-    for bytes in LENGTHS {
-        let record = record(bytes, 6);
-        let size = 8 * length(bytes).wires();
+    for bits in LENGTHS {
+        let record = record(bits, 6);
+        let size = 8 * length(bits).wires();
         let mut buffer = vec![OLD; size + 9];
-        assert_eq!(produce(&record, &mut buffer), Ok(()));
+        assert_eq!(produce(bits, record.bytes(), &mut buffer), Ok(()));
         assert!(buffer[..size] == layout::assignment(&record)[..]);
+        for (wire, value) in layout::wires(&record).into_iter().enumerate() {
+            assert_eq!(entry(&buffer, wire), u64::from(value), "wire {wire}");
+        }
         assert!(untouched(&buffer[size..]));
     }
 }
 
+/// Digest and produce must both refuse this, a byte short of their buffer at
+/// one block or with room for sixteen.
+fn both_refuse(bits: u64, record: &[u8], refusal: Refusal) {
+    let short = [31, 8 * length(0).wires() - 1];
+    let long = [32, 8 * length(8127).wires()];
+    for [digest_bytes, assignment_bytes] in [short, long] {
+        if refusal == Refusal::Buffer && digest_bytes == 32 {
+            continue;
+        }
+        let mut buffer = vec![OLD; digest_bytes];
+        assert_eq!(digest(bits, record, &mut buffer), Err(refusal), "{bits}");
+        assert!(untouched(&buffer));
+        let mut buffer = vec![OLD; assignment_bytes];
+        assert_eq!(produce(bits, record, &mut buffer), Err(refusal), "{bits}");
+        assert!(untouched(&buffer));
+    }
+}
+
 #[test]
-fn produce_refusals() {
-    let mut buffer = vec![OLD; 8 * length(0).wires() - 1];
-    assert_eq!(produce(&[0; 1016], &mut buffer), Err(Refusal::Length));
-    assert_eq!(produce(&[], &mut buffer), Err(Refusal::Buffer));
-    assert!(untouched(&buffer));
+fn a_short_buffer_is_refusal_4() {
+    both_refuse(0, &[], Refusal::Buffer);
+    both_refuse(3, &[0xe0], Refusal::Buffer);
+    both_refuse(8127, &[0; 1016], Refusal::Buffer);
+}
+
+#[test]
+fn a_length_out_of_range_is_refusal_2() {
+    let wide = [1 << 32, (1 << 32) + 8, (1 << 61) + 3, 1 << 63];
+    let high = [u64::MAX - 63, u64::MAX - 6, u64::MAX];
+    for bits in [8128, 8129].into_iter().chain(wide).chain(high) {
+        for record in [&[][..], &[0x00], &[0xff], &[0; 1016], &[0xff; 1017]] {
+            both_refuse(bits, record, Refusal::Length);
+        }
+    }
+}
+
+#[test]
+fn bytes_that_are_not_the_bits_over_8_rounded_up_are_refusal_13() {
+    for bits in LENGTHS {
+        let exact = (bits as usize).div_ceil(8);
+        let less = exact.checked_sub(1);
+        for size in less.into_iter().chain([exact + 1, 2 * exact + 1]) {
+            both_refuse(bits, &vec![0; size], Refusal::RecordBytes);
+            both_refuse(bits, &vec![0xff; size], Refusal::RecordBytes);
+        }
+    }
+}
+
+#[test]
+fn a_bit_after_the_last_record_bit_is_refusal_14() {
+    // Seven bits: one spare bit. One bit: seven.
+    both_refuse(7, &[0x01], Refusal::BitAfterRecord);
+    for spare in [0x40, 0x20, 0x10, 0x08, 0x04, 0x02, 0x01, 0x7f] {
+        both_refuse(1, &[spare], Refusal::BitAfterRecord);
+        both_refuse(1, &[0x80 | spare], Refusal::BitAfterRecord);
+        both_refuse(
+            449,
+            &[vec![0; 56], vec![spare]].concat(),
+            Refusal::BitAfterRecord,
+        );
+    }
+    both_refuse(8127, &[0xff; 1016], Refusal::BitAfterRecord);
+    // Whole bytes have no spare bits, and a record bit is none.
+    let mut buffer = [OLD; 32];
+    assert_eq!(digest(8, &[0xff], &mut buffer), Ok(()));
+    assert_eq!(digest(7, &[0xfe], &mut buffer), Ok(()));
+    assert_eq!(digest(1, &[0x80], &mut buffer), Ok(()));
 }
 
 #[test]
@@ -63,7 +118,7 @@ fn row_bytes_of_the_example() {
 
 #[test]
 fn row_bytes_read_back() {
-    let length = length(56);
+    let length = length(449);
     let table = rows::rows(length);
     for (number, expected) in table.iter() {
         let mut buffer = [OLD; ROW_BYTES];
@@ -83,11 +138,11 @@ fn row_bytes_read_back() {
 #[test]
 fn row_refusals() {
     let mut buffer = [OLD; ROW_BYTES - 1];
-    assert_eq!(row(1016, u64::MAX, &mut buffer), Err(Refusal::Length));
-    assert_eq!(row(1015, 517_632, &mut buffer), Err(Refusal::Row));
+    assert_eq!(row(8128, u64::MAX, &mut buffer), Err(Refusal::Length));
+    assert_eq!(row(8127, 517_632, &mut buffer), Err(Refusal::Row));
     assert_eq!(row(0, u64::MAX, &mut buffer), Err(Refusal::Row));
     // A number that would fit the count after losing its upper half.
     assert_eq!(row(0, 1 << 32, &mut buffer), Err(Refusal::Row));
-    assert_eq!(row(1015, 517_631, &mut buffer), Err(Refusal::Buffer));
+    assert_eq!(row(8120, 517_631, &mut buffer), Err(Refusal::Buffer));
     assert!(untouched(&buffer));
 }

@@ -10,7 +10,7 @@ use judge::packed::answer;
 use judge::packing::{pack, unpack};
 use judge::refusal::Refusal;
 use judge::{layout, sm3};
-use support::{length, record, run, set_entry, untouched, LENGTHS, OLD};
+use support::{bytes, length, record, run, set_entry, untouched, LENGTHS, OLD};
 
 /// At length 0 there are 23,041 wires: 184,328 bytes of entries, and 2,881
 /// packed bytes, of which the last has one wire.
@@ -27,23 +27,23 @@ fn with(entries: &[(usize, u64)]) -> Vec<u8> {
     assignment
 }
 
-fn packed(bytes: u64, assignment: &[u8]) -> Result<Vec<u8>, Refusal> {
-    let mut buffer = vec![OLD; length(bytes).packed_bytes()];
-    pack(bytes, assignment, &mut buffer).map(|()| buffer)
+fn packed(bits: u64, assignment: &[u8]) -> Result<Vec<u8>, Refusal> {
+    let mut buffer = vec![OLD; length(bits).packed_bytes()];
+    pack(bits, assignment, &mut buffer).map(|()| buffer)
 }
 
-fn unpacked(bytes: u64, packed: &[u8]) -> Result<Vec<u8>, Refusal> {
-    let mut buffer = vec![OLD; length(bytes).assignment_bytes()];
-    unpack(bytes, packed, &mut buffer).map(|()| buffer)
+fn unpacked(bits: u64, packed: &[u8]) -> Result<Vec<u8>, Refusal> {
+    let mut buffer = vec![OLD; length(bits).assignment_bytes()];
+    unpack(bits, packed, &mut buffer).map(|()| buffer)
 }
 
 #[test]
 fn packed_bytes_are_65_and_2816_a_block() {
     assert_eq!(length(0).packed_bytes(), PACKED);
-    assert_eq!(length(56).packed_bytes(), 5_697);
-    assert_eq!(length(1015).packed_bytes(), 45_121);
-    for bytes in LENGTHS {
-        let length = length(bytes);
+    assert_eq!(length(448).packed_bytes(), 5_697);
+    assert_eq!(length(8127).packed_bytes(), 45_121);
+    for bits in LENGTHS {
+        let length = length(bits);
         assert_eq!(length.packed_bytes(), 65 + 2_816 * length.blocks());
         assert_eq!(8 * length.packed_bytes() - length.wires(), 7, "spare bits");
     }
@@ -94,26 +94,26 @@ fn the_lowest_entry_that_is_no_bit_is_returned() {
 
 #[test]
 fn a_record_packs_and_unpacks() {
-    for bytes in LENGTHS {
-        let assignment = layout::assignment(&record(bytes, 7));
-        let small = packed(bytes, &assignment).unwrap();
+    for bits in LENGTHS {
+        let assignment = layout::assignment(&record(bits, 7));
+        let small = packed(bits, &assignment).unwrap();
         // Wire 0, then the digest's 256 bits, so that they are moved down by
         // one; then the start words.
-        let digest = sm3::hash(&record(bytes, 7));
+        let digest = sm3::hash(&record(bits, 7));
         assert_eq!(small[0], 0x80 | digest[0] >> 1);
         assert_eq!(small[32], digest[31] << 7 | 0x39, "and 73 >> 1");
-        assert!(unpacked(bytes, &small) == Ok(assignment), "length {bytes}");
+        assert!(unpacked(bits, &small) == Ok(assignment), "{bits} bits");
     }
 }
 
 #[test]
 fn any_bytes_without_spare_bits_unpack() {
-    for bytes in LENGTHS {
-        let size = length(bytes).packed_bytes();
-        let mut small = record(size as u64, 8);
+    for bits in LENGTHS {
+        let size = length(bits).packed_bytes();
+        let mut small = bytes(size, 8);
         small[size - 1] &= 0x80;
-        let assignment = unpacked(bytes, &small).unwrap();
-        assert!(packed(bytes, &assignment) == Ok(small), "length {bytes}");
+        let assignment = unpacked(bits, &small).unwrap();
+        assert!(packed(bits, &assignment) == Ok(small), "{bits} bits");
     }
 }
 
@@ -131,12 +131,12 @@ fn bytes_past_the_result_stay() {
 fn pack_refuses_in_the_order_2_4_6_10() {
     let (mut short, mut exact) = (vec![OLD; PACKED - 1], vec![OLD; PACKED]);
     let (wrong, two) = (vec![2; ENTRIES - 1], with(&[(9, 2)]));
-    for length in [1016, 1 << 32, 1 << 63, u64::MAX] {
+    for length in [8128, 1 << 32, (1 << 61) + 3, 1 << 63, u64::MAX] {
         assert_eq!(pack(length, &wrong, &mut short), Err(Refusal::Length));
     }
     assert_eq!(pack(0, &wrong, &mut short), Err(Refusal::Buffer));
     assert_eq!(pack(0, &two, &mut short), Err(Refusal::Buffer));
-    assert_eq!(pack(56, &two, &mut exact), Err(Refusal::Buffer));
+    assert_eq!(pack(448, &two, &mut exact), Err(Refusal::Buffer));
     for size in [0, ENTRIES - 8, ENTRIES - 1, ENTRIES + 1, ENTRIES + 8] {
         let wrong = vec![2; size];
         assert_eq!(pack(0, &wrong, &mut exact), Err(Refusal::AssignmentBytes));
@@ -150,11 +150,11 @@ fn pack_refuses_in_the_order_2_4_6_10() {
 fn unpack_refuses_in_the_order_2_4_11_12() {
     let (mut short, mut exact) = (vec![OLD; ENTRIES - 1], vec![OLD; ENTRIES]);
     let (wrong, mut spare) = ([0xff; PACKED - 1], [0; PACKED]);
-    for length in [1016, 1 << 32, 1 << 63, u64::MAX] {
+    for length in [8128, 1 << 32, (1 << 61) + 3, 1 << 63, u64::MAX] {
         assert_eq!(unpack(length, &wrong, &mut short), Err(Refusal::Length));
     }
     assert_eq!(unpack(0, &wrong, &mut short), Err(Refusal::Buffer));
-    assert_eq!(unpack(56, &wrong, &mut exact), Err(Refusal::Buffer));
+    assert_eq!(unpack(448, &wrong, &mut exact), Err(Refusal::Buffer));
     for size in [0, PACKED - 1, PACKED + 1, 5_697] {
         let wrong = vec![0xff; size];
         assert_eq!(unpack(0, &wrong, &mut exact), Err(Refusal::PackedBytes));
@@ -168,12 +168,12 @@ fn unpack_refuses_in_the_order_2_4_11_12() {
 }
 
 /// A record's length, digest and packed bytes as the program reads them.
-fn claim(bytes: u64) -> Vec<u8> {
-    let record = record(bytes, 9);
+fn claim(bits: u64) -> Vec<u8> {
+    let record = record(bits, 9);
     let digest = sm3::hash(&record);
     let hex: String = digest.iter().map(|byte| format!("{byte:02x}")).collect();
-    let mut input = format!("{bytes},{hex}\n").into_bytes();
-    input.extend(packed(bytes, &layout::assignment(&record)).unwrap());
+    let mut input = format!("{bits},{hex}\n").into_bytes();
+    input.extend(packed(bits, &layout::assignment(&record)).unwrap());
     input
 }
 
@@ -190,8 +190,18 @@ fn assert_bad_line(part: Range<usize>, by: &[u8]) {
 
 #[test]
 fn claims_that_are_accepted() {
-    for bytes in [0, 55, 56, 1015] {
-        assert_eq!(answer(&claim(bytes)), "accepted\n", "length {bytes}");
+    for bits in [0, 1, 440, 447, 448, 453, 8120, 8127] {
+        assert_eq!(answer(&claim(bits)), "accepted\n", "{bits} bits");
+    }
+}
+
+#[test]
+fn a_claim_of_another_length_in_the_same_byte_is_refused() {
+    let right = claim(27);
+    for other in ["25", "26", "28", "32"] {
+        let mut input = right.clone();
+        input.splice(..2, other.bytes());
+        assert_eq!(answer(&input), "refused,9\n", "{other} bits");
     }
 }
 
@@ -227,8 +237,8 @@ fn lines_that_are_refusal_1() {
     for by in feed {
         assert_bad_line(66..67, by);
     }
-    // The length 1,016 would be refusal 2.
-    assert_bad_line(0..3, b"1016,A");
+    // The length 8,128 would be refusal 2.
+    assert_bad_line(0..3, b"8128,A");
 }
 
 #[test]
@@ -242,7 +252,7 @@ fn a_line_without_its_feed_is_refusal_1() {
 
 #[test]
 fn a_length_out_of_range_is_refused_before_the_bytes_are_looked_at() {
-    for length in ["1016", "999999999"] {
+    for length in ["8128", "999999999"] {
         let mut input = claim(0);
         input.splice(..1, length.bytes());
         assert_eq!(answer(&input), "refused,2\n", "{length}");
@@ -286,6 +296,6 @@ fn claims_that_the_check_refuses() {
 
 #[test]
 fn the_binary() {
-    assert_eq!(run(&["packed"], &claim(3)), "accepted\n");
-    assert_eq!(run(&["packed"], &claim(3)[1..]), "refused,1\n");
+    assert_eq!(run(&["packed"], &claim(27)), "accepted\n");
+    assert_eq!(run(&["packed"], &claim(27)[2..]), "refused,1\n");
 }

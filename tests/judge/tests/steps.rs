@@ -18,17 +18,17 @@ fn the_whole_example() {
                     256,0,message,0,0,bit\n\
                     257,0,message,0,1,bit\n\
                     258,0,message,0,2,bit\n";
-    assert_eq!(listing(b"1,255,4\n"), expected);
+    assert_eq!(listing(b"8,255,4\n"), expected);
 }
 
 #[test]
 fn how_many_may_be_0() {
-    for line in ["0,0,0\n", "0,32832,0\n", "1015,517632,0\n", "1015,5,0\n"] {
+    for line in ["0,0,0\n", "0,32832,0\n", "8120,517632,0\n", "8127,5,0\n"] {
         assert_eq!(listing(line.as_bytes()), format!("{HEADER}\n"), "{line}");
     }
 }
 
-/// Rows of length 56, which has 2 blocks, by the tables of docs/LAYOUT.md:
+/// Rows of 448 bits, which are 2 blocks, by the tables of docs/LAYOUT.md:
 /// block 0 has its rows from 256 on, block 1 from 32,576 on. Round 15 begins
 /// at row 17,479 of a block, round 16 at 17,808, round 63 at 31,767.
 const BY_HAND: [&str; 28] = [
@@ -80,9 +80,19 @@ const BY_HAND: [&str; 28] = [
 fn rows_placed_by_hand() {
     for expected in BY_HAND {
         let row = expected.split(',').next().unwrap();
-        let printed = listing(format!("56,{row},1\n").as_bytes());
+        let printed = listing(format!("448,{row},1\n").as_bytes());
         assert_eq!(printed, format!("{HEADER}\n{expected}\n"));
     }
+}
+
+#[test]
+fn a_record_that_ends_inside_a_byte() {
+    let expected = "row,block,step,index,bit,form\n\
+                    703,0,message,13,31,bit\n\
+                    704,0,message,14,0,bit\n\
+                    705,0,message,14,1,bit\n\
+                    706,0,message,14,2,fixed\n";
+    assert_eq!(listing(b"450,703,4\n"), expected);
 }
 
 /// The form that a row has, by its terms alone.
@@ -156,14 +166,14 @@ fn says(line: &str, number: u32, row: Row<'_>) -> bool {
 
 #[test]
 fn all_lines_agree_with_the_rows() {
-    for bytes in LENGTHS {
-        let table = rows::rows(length(bytes));
-        let text = listing(format!("{bytes},0,{}\n", table.count()).as_bytes());
+    for bits in LENGTHS {
+        let table = rows::rows(length(bits));
+        let text = listing(format!("{bits},0,{}\n", table.count()).as_bytes());
         let mut lines = text.lines();
         assert_eq!(lines.next(), Some(HEADER));
         for (number, row) in table.iter() {
             let line = lines.next().unwrap();
-            assert!(says(line, number.0, row), "L {bytes}: {line}");
+            assert!(says(line, number.0, row), "{bits} bits: {line}");
         }
         assert_eq!(lines.next(), None);
     }

@@ -7,7 +7,8 @@ mod support;
 use judge::check::{check, check_with};
 use judge::field::P;
 use judge::forms::RowTable;
-use judge::length::Length;
+use judge::length::{Length, LONGEST};
+use judge::record::Record;
 use judge::refusal::Refusal;
 use judge::{layout, rows, sm3};
 use support::{entry, length, set_entry};
@@ -15,7 +16,7 @@ use support::{entry, length, set_entry};
 /// A record's assignment and digest, with the rows of its length and the
 /// lines so far.
 struct Trial {
-    bytes: u64,
+    bits: u64,
     length: Length,
     table: RowTable,
     assignment: Vec<u8>,
@@ -24,12 +25,15 @@ struct Trial {
 }
 
 impl Trial {
-    fn of(bytes: u64) -> Trial {
-        let record: Vec<u8> = (0..bytes).map(|k| (k % 251) as u8).collect();
+    /// The record of so many bits whose byte k is k mod 251; the bits after
+    /// its last one are zero.
+    fn of(bits: u64) -> Trial {
+        let bytes: Vec<u8> = (0..1016).map(|k| (k % 251) as u8).collect();
+        let record = Record::front(bits, &bytes).expect("a record in range");
         Trial {
-            bytes,
-            length: length(bytes),
-            table: rows::rows(length(bytes)),
+            bits,
+            length: length(bits),
+            table: rows::rows(length(bits)),
             assignment: layout::assignment(&record),
             digest: sm3::hash(&record),
             lines: Vec::new(),
@@ -43,7 +47,7 @@ impl Trial {
             Err(Refusal::Unsatisfied(row)) => format!("9,{}", row.0),
             Err(refusal) => refusal.number().to_string(),
         };
-        self.lines.push(format!("{},{what},{answer}", self.bytes));
+        self.lines.push(format!("{},{what},{answer}", self.bits));
     }
 
     fn check(&mut self, what: &str) {
@@ -68,7 +72,7 @@ impl Trial {
     fn wires(&mut self) {
         // The message's bit k stands in block k / 512.
         let message = |bit: usize| 513 + 22_528 * (bit / 512) + bit % 512;
-        let bits = 8 * self.length.bytes();
+        let bits = self.length.bits();
         // The last block ends with 256 result wires, and before them with
         // the 230 wires of round 63: P0(TT2) is its last word, and the lower
         // carry of TT2 stands before that.
@@ -94,12 +98,12 @@ impl Trial {
     }
 
     fn lengths(&mut self) {
-        let long = check(1016, &self.assignment, &self.digest);
+        let long = check(LONGEST + 1, &self.assignment, &self.digest);
         self.line("length", long);
-        let digest = check(self.bytes, &self.assignment, &self.digest[..31]);
+        let digest = check(self.bits, &self.assignment, &self.digest[..31]);
         self.line("digest31", digest);
         let short = &self.assignment[..self.assignment.len() - 1];
-        let short = check(self.bytes, short, &self.digest);
+        let short = check(self.bits, short, &self.digest);
         self.line("short", short);
     }
 
@@ -123,7 +127,7 @@ impl Trial {
 
 #[test]
 fn the_program_trial_prints_these_lines() {
-    let lines = [0, 55, 56, 64, 1015].map(|bytes| Trial::of(bytes).run());
+    let lines = [0, 440, 448, 512, 8120, 8127].map(|bits| Trial::of(bits).run());
     let path = concat!(env!("CARGO_MANIFEST_DIR"), "/../../crates/trial/stdout");
     let printed = std::fs::read_to_string(path).expect("the program's file");
     assert_eq!(printed, lines.concat().join("\n") + "\n");

@@ -6,11 +6,13 @@ use judge::check::check_with;
 use judge::forms::{Row, RowTable};
 use judge::length::Length;
 use judge::operations::{self, Counts};
+use judge::packing;
+use judge::record::Record;
 use judge::refusal::Refusal;
-use judge::{packing, sm3};
 
 use crate::answers::{self, told};
 use crate::lent::Lent;
+use crate::openssl;
 use crate::random::Random;
 use crate::tally::{Operation, Tally};
 
@@ -83,34 +85,59 @@ impl Calls {
     }
 
     /// The digest of a record into a buffer of that length. Where there is a
-    /// result, OpenSSL's must be the same.
-    pub fn digest(&mut self, record: &[u8], out_len: usize) {
+    /// result, OpenSSL must agree with it. Returns the judge's answer.
+    pub fn digest(
+        &mut self,
+        length: u64,
+        record: &[u8],
+        out_len: usize,
+        note: &str,
+    ) -> Result<(), Refusal> {
         let call = Written {
             operation: Operation::Digest,
-            what: &format!("record of {} bytes", record.len()),
-            judge: &operations::digest,
-            library: &host::digest,
+            what: &format!("{length} bits in {} bytes, {note}", record.len()),
+            judge: &|record, out| operations::digest(length, record, out),
+            library: &|empty, record, out| host::digest(empty, length, record, out),
         };
-        if self.written(call, record, out_len).is_ok() {
-            self.tally.count("digests compared with OpenSSL's", 1);
-            if host::openssl::one_call(record) != sm3::hash(record) {
-                let bytes = record.len();
-                self.tally.difference(format!(
-                    "Digest, record of {bytes} bytes: OpenSSL and the judge differ"
-                ));
-            }
+        let judged = self.written(call, record, out_len);
+        if judged.is_ok() {
+            self.openssl(&Record::new(length, record).expect("a digest was given"));
+        }
+        judged
+    }
+
+    fn openssl(&mut self, record: &Record) {
+        let (name, agrees) = match record.bits() % 8 {
+            0 => ("digests compared with OpenSSL's", openssl::agrees(record)),
+            _ => (
+                "digests compared with OpenSSL's a block later",
+                openssl::agrees_a_block_later(record),
+            ),
+        };
+        self.tally.count(name, 1);
+        if !agrees {
+            let bits = record.bits();
+            self.tally
+                .difference(format!("Digest, {bits} bits: OpenSSL and the judge differ"));
         }
     }
 
-    /// The assignment of a record into a buffer of that length.
-    pub fn produce(&mut self, record: &[u8], out_len: usize) {
+    /// The assignment of a record into a buffer of that length. Returns the
+    /// judge's answer.
+    pub fn produce(
+        &mut self,
+        length: u64,
+        record: &[u8],
+        out_len: usize,
+        note: &str,
+    ) -> Result<(), Refusal> {
         let call = Written {
             operation: Operation::Produce,
-            what: &format!("record of {} bytes", record.len()),
-            judge: &operations::produce,
-            library: &host::produce,
+            what: &format!("{length} bits in {} bytes, {note}", record.len()),
+            judge: &|record, out| operations::produce(length, record, out),
+            library: &|empty, record, out| host::produce(empty, length, record, out),
         };
-        let _ = self.written(call, record, out_len);
+        self.written(call, record, out_len)
     }
 
     /// The packed bytes of an assignment into a buffer of that length. Returns
@@ -124,7 +151,7 @@ impl Calls {
     ) -> Result<(), Refusal> {
         let call = Written {
             operation: Operation::Pack,
-            what: &format!("length {length}, {} bytes, {note}", assignment.len()),
+            what: &format!("{length} bits, {} bytes, {note}", assignment.len()),
             judge: &|assignment, out| packing::pack(length, assignment, out),
             library: &|empty, assignment, out| host::pack(empty, length, assignment, out),
         };
@@ -142,7 +169,7 @@ impl Calls {
     ) -> Result<(), Refusal> {
         let call = Written {
             operation: Operation::Unpack,
-            what: &format!("length {length}, {} bytes, {note}", packed.len()),
+            what: &format!("{length} bits, {} bytes, {note}", packed.len()),
             judge: &|packed, out| packing::unpack(length, packed, out),
             library: &|empty, packed, out| host::unpack(empty, length, packed, out),
         };
@@ -171,7 +198,7 @@ impl Calls {
         out_len: usize,
         judge: impl Fn(&mut [u8]) -> Result<Counts, Refusal>,
     ) {
-        let what = format!("length {length}, row {row}, buffer of {out_len}");
+        let what = format!("{length} bits, row {row}, buffer of {out_len}");
         let empty = self.empty();
         let mut out = Lent::buffer(out_len, &mut self.random);
         let mut must = out.clone();
@@ -206,7 +233,7 @@ impl Calls {
         assignment: &[u8],
         note: &str,
     ) {
-        let what = format!("length {length}, {note}");
+        let what = format!("{length} bits, {note}");
         let held = Lent::holding(digest, &mut self.random);
         let read = Lent::holding(assignment, &mut self.random);
         let (held_before, read_before) = (held.clone(), read.clone());
@@ -223,14 +250,14 @@ impl Calls {
     /// The check of an assignment against 32 of its own bytes.
     pub fn check_own_bytes(&mut self, table: &RowTable, length: Length, bytes: &[u8], at: usize) {
         let what = format!(
-            "length {}, the digest is the assignment's bytes from {at} on",
-            length.bytes()
+            "{} bits, the digest is the assignment's bytes from {at} on",
+            length.bits()
         );
         let lent = Lent::holding(bytes, &mut self.random);
         let before = lent.clone();
         let (digest, assignment) = (&lent.slice()[at..at + 32], lent.slice());
         let judged = check_with(table, length, assignment, digest);
-        let answer = host::check(Empty::Null, length.bytes() as u64, digest, assignment);
+        let answer = host::check(Empty::Null, length.bits() as u64, digest, assignment);
         self.answers(Operation::Check, answers::plain(judged), answer, &what);
         self.memory(Operation::Check, "assignment", &before, &lent, &what);
         self.tally.count("checks with slices that overlap", 1);

@@ -4,6 +4,7 @@ use judge::bits::bit;
 use judge::field::P;
 use judge::forms::RowTable;
 use judge::length::Length;
+use judge::record::Record;
 use judge::{layout, rows, sm3};
 
 use crate::random::Random;
@@ -15,20 +16,19 @@ pub struct Ground {
 }
 
 impl Ground {
-    pub fn new(bytes: u64) -> Ground {
-        let length = Length::new(bytes).expect("a length in range");
+    pub fn new(bits: u64) -> Ground {
+        let length = Length::new(bits).expect("a length in range");
         let table = rows::rows(length);
         Ground { length, table }
     }
 
-    pub fn bytes(&self) -> u64 {
-        self.length.bytes() as u64
+    pub fn bits(&self) -> u64 {
+        self.length.bits() as u64
     }
 
     /// A right claim of a random record of this length.
     pub fn claim(&self, random: &mut Random) -> Claim {
-        let record = random.bytes(self.length.bytes());
-        Claim::of(&record)
+        Claim::of(&random.record(self.bits()))
     }
 }
 
@@ -41,7 +41,7 @@ pub struct Claim {
 }
 
 impl Claim {
-    pub fn of(record: &[u8]) -> Claim {
+    pub fn of(record: &Record) -> Claim {
         Claim {
             digest: sm3::hash(record),
             assignment: layout::assignment(record),

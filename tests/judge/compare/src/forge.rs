@@ -4,7 +4,7 @@
 //! check that leaves out one row is found out by a wire turned there.
 
 use judge::bits::bit;
-use judge::length::Length;
+use judge::record::Record;
 use judge::sm3::{self, Words};
 
 use crate::claim::Claim;
@@ -76,10 +76,9 @@ impl Forge<'_> {
 
 /// The claim of a record with these wires turned over on the way. A turned
 /// digest wire is turned in the digest too.
-pub fn forge(record: &[u8], turned: &[usize]) -> Claim {
-    let length = Length::of(record).expect("a record in range");
+pub fn forge(record: &Record, turned: &[usize]) -> Claim {
     let mut forge = Forge {
-        wires: Vec::with_capacity(length.wires()),
+        wires: Vec::with_capacity(record.length().wires()),
         turned,
     };
     // Wire 0, and room for the digest, which is known at the end.
@@ -109,11 +108,12 @@ mod tests {
 
     #[test]
     fn with_no_wire_turned_it_is_the_layout() {
-        for length in [0, 55, 56, 1015] {
-            let record: Vec<u8> = (0..length).map(|k| (k * k) as u8).collect();
+        let bytes: Vec<u8> = (0..1016).map(|k| (k * k) as u8).collect();
+        for bits in [0, 3, 440, 447, 448, 513, 8120, 8127] {
+            let record = Record::front(bits, &bytes).unwrap();
             let (forged, right) = (forge(&record, &[]), Claim::of(&record));
             assert_eq!(forged.digest, right.digest);
-            assert!(forged.assignment == right.assignment, "length {length}");
+            assert!(forged.assignment == right.assignment, "{bits} bits");
         }
     }
 }

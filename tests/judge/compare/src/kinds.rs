@@ -132,7 +132,7 @@ fn number_kept(claim: &mut Claim, place: &Place, random: &mut Random) {
 /// Every kind of wire in every block, changed so many times. The ways to
 /// change it and the forge take turns; a quarter is shifted besides.
 pub fn each_kind(calls: &mut Calls, ground: &Ground, count: usize) {
-    let record = calls.random.bytes(ground.length.bytes());
+    let record = calls.random.record(ground.bits());
     let right = Claim::of(&record);
     for block in 0..ground.length.blocks() {
         for (number, kind) in KINDS.iter().enumerate() {
@@ -176,7 +176,7 @@ pub fn single_shifts(calls: &mut Calls, ground: &Ground, count: usize) {
         let mut claim = right.clone();
         same_residue(&mut claim, &place, &mut calls.random);
         let (digest, assignment) = (&claim.digest, &claim.assignment);
-        calls.check_known(Ok(()), ground.bytes(), digest, assignment, &claim.note);
+        calls.check_known(Ok(()), ground.bits(), digest, assignment, &claim.note);
         calls.tally.count("right claims with one entry shifted", 1);
     }
 }
@@ -214,7 +214,7 @@ pub fn two_changes(calls: &mut Calls, ground: &Ground, count: usize) {
 pub fn other_beginnings(calls: &mut Calls, ground: &Ground, count: usize) {
     let blocks = ground.length.blocks();
     for block in (0..blocks).flat_map(|block| vec![block; count]) {
-        let record = calls.random.bytes(ground.length.bytes());
+        let record = calls.random.record(ground.bits());
         // The start words or the result before: 256 wires before the block's.
         let wire = FIRST + BLOCK * block - 1 - calls.random.below(256);
         let mut claim = forge(&record, &[wire]);

@@ -16,12 +16,13 @@ mod forge;
 mod kinds;
 mod lent;
 mod listings;
+mod openssl;
 mod packed;
 mod packing;
-
 mod plan;
 mod program;
 mod random;
+mod records;
 mod refusals;
 mod sections;
 mod soak;

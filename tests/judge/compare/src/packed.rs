@@ -21,7 +21,7 @@ struct Input {
 impl Input {
     /// The right one of a random record.
     fn right(length: u64, random: &mut Random) -> Input {
-        let claim = Claim::of(&random.bytes(length as usize));
+        let claim = Claim::of(&random.record(length));
         let in_range = Length::new(length).expect("a length in range");
         Input {
             length,
@@ -65,7 +65,9 @@ impl Input {
             self.packed.resize(random.pick(&sizes), 0);
         }
         if has(2) {
-            self.length = random.pick(&[1016, 1017, 65_536, 999_999_999]);
+            // Two would be the length after losing upper bits.
+            let wider = [8192, 65_536].map(|more| more + self.length);
+            self.length = random.pick(&[8128, 8129, wider[0], wider[1], 999_999_999]);
         }
     }
 }
@@ -189,9 +191,9 @@ pub fn claims(program: &Program, calls: &mut Calls, length: u64) {
 /// lines.
 pub fn random(program: &Program, calls: &mut Calls, count: usize) {
     for _ in 0..count {
-        let length = calls.random.below(1016) as u64;
+        let length = calls.random.below(8128) as u64;
         claims(program, calls, length);
-        let length = calls.random.pick(&[0, 7, 10, 55]);
+        let length = calls.random.pick(&[0, 7, 10, 443]);
         let right = Input::right(length, &mut calls.random);
         let mut input = damaged(
             right.line(),

@@ -7,23 +7,23 @@ use judge::refusal::Refusal;
 use crate::calls::Calls;
 use crate::claim::Claim;
 use crate::damage::NO_BITS;
-use crate::refusals::{choices, first, LENGTHS_OUT};
+use crate::refusals::{choices, first, lengths_out};
 use crate::sections::{enough, record};
 
 /// The packed bytes of an assignment that has some.
 pub fn packed(length: Length, assignment: &[u8]) -> Vec<u8> {
     let mut bytes = vec![0; length.packed_bytes()];
-    packing::pack(length.bytes() as u64, assignment, &mut bytes).expect("entries that are bits");
+    packing::pack(length.bits() as u64, assignment, &mut bytes).expect("entries that are bits");
     bytes
 }
 
 /// An assignment packed, and its packed bytes unpacked.
 fn there_and_back(calls: &mut Calls, length: Length, wide: &[u8], small: &[u8], note: &str) {
-    let (bytes, out_len) = (length.bytes() as u64, enough(calls, small.len()));
-    let judged = calls.pack(bytes, wide, out_len, note);
+    let (bits, out_len) = (length.bits() as u64, enough(calls, small.len()));
+    let judged = calls.pack(bits, wide, out_len, note);
     calls.must_be(0, judged, note);
     let out_len = enough(calls, wide.len());
-    let judged = calls.unpack(bytes, small, out_len, note);
+    let judged = calls.unpack(bits, small, out_len, note);
     calls.must_be(0, judged, note);
 }
 
@@ -52,19 +52,20 @@ pub fn random_bytes(calls: &mut Calls, length: Length) {
 /// One entry that is no bit, at wires beside the ends and the borders of bytes
 /// and words; then several, of which the lowest must be returned.
 pub fn no_bits(calls: &mut Calls, length: Length, times: usize) {
-    let (bytes, right) = (length.bytes() as u64, calls.random.bytes(length.bytes()));
-    let (right, last) = (Claim::of(&right), length.wires() - 1);
+    let bits = length.bits() as u64;
+    let right = Claim::of(&calls.random.record(bits));
+    let last = length.wires() - 1;
     let fixed = [0, 1, 7, 8, 31, 32, 33, 63, 64, 512, 513, last - 1, last];
     for wire in fixed {
         for value in NO_BITS {
-            with_no_bits(calls, bytes, &right, &[(wire, value)]);
+            with_no_bits(calls, bits, &right, &[(wire, value)]);
         }
     }
     for _ in 0..20 * times {
         let some: Vec<(usize, u64)> = (0..calls.random.range(1, 6))
             .map(|_| (calls.random.below(last + 1), calls.random.pick(&NO_BITS)))
             .collect();
-        with_no_bits(calls, bytes, &right, &some);
+        with_no_bits(calls, bits, &right, &some);
     }
 }
 
@@ -82,13 +83,14 @@ fn with_no_bits(calls: &mut Calls, length: u64, right: &Claim, entries: &[(usize
 
 /// Each spare bit set alone, and all of them, after a last wire of 0 and of 1.
 pub fn spare_bits(calls: &mut Calls, length: Length) {
-    let (bytes, right) = (length.bytes() as u64, calls.random.bytes(length.bytes()));
-    let mut small = packed(length, &Claim::of(&right).assignment);
+    let bits = length.bits() as u64;
+    let right = Claim::of(&calls.random.record(bits));
+    let mut small = packed(length, &right.assignment);
     for spare in [0x40, 0x20, 0x10, 0x08, 0x04, 0x02, 0x01, 0x7f] {
         for last in [0x00, 0x80] {
             small[length.packed_bytes() - 1] = last | spare;
             let note = format!("last byte {:#04x}", last | spare);
-            let judged = calls.unpack(bytes, &small, length.assignment_bytes(), &note);
+            let judged = calls.unpack(bits, &small, length.assignment_bytes(), &note);
             calls.must_be(12, judged, &note);
         }
     }
@@ -106,11 +108,11 @@ fn above(exact: usize) -> [usize; 3] {
 /// All these sizes of the slice that is read with all of the buffer.
 pub fn all_sizes(calls: &mut Calls, length: Length) {
     let all = |exact| [&below(exact)[..], &[exact], &above(exact)].concat();
-    let (bytes, wide) = (length.bytes() as u64, all(length.assignment_bytes()));
+    let (bits, wide) = (length.bits() as u64, all(length.assignment_bytes()));
     let small = all(length.packed_bytes());
     for &(wide, small) in &pairs(&wide, &small) {
-        let _ = calls.pack(bytes, &vec![0; wide], small, "zeros");
-        let _ = calls.unpack(bytes, &vec![0; small], wide, "zeros");
+        let _ = calls.pack(bits, &vec![0; wide], small, "zeros");
+        let _ = calls.unpack(bits, &vec![0; small], wide, "zeros");
     }
 }
 
@@ -136,7 +138,7 @@ impl Lending {
     fn with(mut self, calls: &mut Calls, faults: &[u8], size: u8) {
         let random = &mut calls.random;
         if faults.contains(&2) {
-            self.length = random.pick(&LENGTHS_OUT);
+            self.length = random.pick(&lengths_out(self.length));
         }
         if faults.contains(&4) {
             self.out_len = random.pick(&below(self.out_len));
@@ -156,7 +158,7 @@ impl Lending {
 
 /// Pack and unpack with every choice of faults, so many times.
 pub fn refusals(calls: &mut Calls, length: Length, times: usize) {
-    let right = Claim::of(&calls.random.bytes(length.bytes()));
+    let right = Claim::of(&calls.random.record(length.bits() as u64));
     for faults in choices(&[2, 4, 6, 10], times) {
         let mut claim = right.clone();
         if faults.contains(&10) {
@@ -164,7 +166,7 @@ pub fn refusals(calls: &mut Calls, length: Length, times: usize) {
             claim.set(wire, calls.random.pick(&NO_BITS));
         }
         let right = Lending {
-            length: length.bytes() as u64,
+            length: length.bits() as u64,
             read: claim.assignment,
             out_len: length.packed_bytes(),
             call: Calls::pack,
@@ -177,7 +179,7 @@ pub fn refusals(calls: &mut Calls, length: Length, times: usize) {
             small[length.packed_bytes() - 1] |= calls.random.range(1, 0x80) as u8;
         }
         let right = Lending {
-            length: length.bytes() as u64,
+            length: length.bits() as u64,
             read: small,
             out_len: length.assignment_bytes(),
             call: Calls::unpack,
@@ -189,22 +191,22 @@ pub fn refusals(calls: &mut Calls, length: Length, times: usize) {
 /// Both sides of each limit at one length: all sizes exact, and one byte less
 /// of the slice that is read and of the buffer.
 pub fn limits(calls: &mut Calls, length: Length) {
-    let right = Claim::of(&calls.random.bytes(length.bytes()));
-    let (bytes, small) = (length.bytes() as u64, packed(length, &right.assignment));
+    let right = Claim::of(&calls.random.record(length.bits() as u64));
+    let (bits, small) = (length.bits() as u64, packed(length, &right.assignment));
     let (wide, exact) = (right.assignment, length.assignment_bytes());
     for (less, out_less) in [(0, 0), (0, 1), (1, 0), (1, 1)] {
         let note = format!("{less} bytes less to read, {out_less} to write");
-        let _ = calls.pack(bytes, &wide[less..], small.len() - out_less, &note);
-        let _ = calls.unpack(bytes, &small[..small.len() - less], exact - out_less, &note);
+        let _ = calls.pack(bits, &wide[less..], small.len() - out_less, &note);
+        let _ = calls.unpack(bits, &small[..small.len() - less], exact - out_less, &note);
     }
 }
 
-/// Refusal 2 at every length above 1,015 up to 2,000, at 1,016 with the sizes
-/// that 17 blocks would have, and at lengths that would be in range after
-/// losing upper bits.
+/// Refusal 2 at the thousand lengths above 8,127, at 8,128 with the sizes that
+/// 17 blocks would have, and at lengths that would be in range after losing
+/// upper bits.
 pub fn lengths_above(calls: &mut Calls, length: Length) {
     let (wide, small) = (length.assignment_bytes(), length.packed_bytes());
-    for above in (LONGEST + 1..=2_000).chain(LENGTHS_OUT) {
+    for above in (LONGEST + 1..=LONGEST + 1_000).chain(lengths_out(length.bits() as u64)) {
         length_above(calls, above, wide, small);
     }
     length_above(calls, LONGEST + 1, 8 * 383_489, 47_937);
@@ -212,7 +214,7 @@ pub fn lengths_above(calls: &mut Calls, length: Length) {
 
 fn length_above(calls: &mut Calls, length: u64, wide: usize, small: usize) {
     let judged = calls.pack(length, &vec![0; wide], small, "zeros");
-    calls.must_be(2, judged, "a length above 1,015");
+    calls.must_be(2, judged, "a length above 8,127");
     let judged = calls.unpack(length, &vec![0; small], wide, "zeros");
-    calls.must_be(2, judged, "a length above 1,015");
+    calls.must_be(2, judged, "a length above 8,127");
 }

@@ -6,18 +6,22 @@ use judge::length::{Length, LONGEST};
 use crate::calls::Calls;
 use crate::claim::Ground;
 use crate::program::{Program, Programs};
-use crate::{kinds, listings, packed, packing, refusals, sections};
+use crate::{kinds, listings, packed, packing, records, refusals, sections};
 
-/// How much of everything.
+/// How much of everything. Lengths are in bits.
 pub struct Amounts {
-    /// Digests, produced assignments, those packed and unpacked, and changed
-    /// block bits at every length.
+    /// Digests and produced assignments at every length.
     digests: usize,
     produced: usize,
+    /// Rows of padding, changed block bits and assignments packed and unpacked
+    /// at lengths that are multiples of this, counted from one drawn by the
+    /// seed, and at lengths beside block ends. Steps are odd, so that records
+    /// end at every place of a byte.
+    padding_step: u64,
     packed: usize,
     block_bit_claims: usize,
-    /// Rows and checks at lengths that are multiples of this, counted from
-    /// one drawn by the seed, and at lengths beside block ends.
+    /// Rows, checks and records that are refused although there is room for
+    /// their results, at such lengths by this step.
     length_step: u64,
     sampled_rows: usize,
     some_damages: usize,
@@ -43,19 +47,20 @@ impl Amounts {
     /// For the gate: a minute at most on two cores.
     pub fn short() -> Amounts {
         Amounts {
-            digests: 4,
+            digests: 2,
             produced: 1,
+            padding_step: 15,
             packed: 1,
             block_bit_claims: 1,
-            length_step: 8,
+            length_step: 91,
             sampled_rows: 200,
             some_damages: 3,
-            tables: vec![0, 56, 1015],
-            damaged: vec![(9, 40), (100, 12), (1015, 1)],
-            wires: vec![(55, 61), (119, 997), (1015, 40_009)],
+            tables: vec![0, 451, 8127],
+            damaged: vec![(75, 40), (802, 12), (8127, 1)],
+            wires: vec![(447, 61), (957, 997), (8127, 40_009)],
             several_wires: 20,
-            kinds: vec![(55, 20), (119, 10), (1015, 1)],
-            refused: vec![(0, 2), (56, 1)],
+            kinds: vec![(447, 20), (958, 10), (8127, 1)],
+            refused: vec![(0, 2), (3, 2), (453, 1)],
             lines: 40,
             claims: 10,
         }
@@ -63,30 +68,39 @@ impl Amounts {
 
     pub fn full() -> Amounts {
         // A whole table for every number of blocks, and some more.
-        let mut tables: Vec<u64> = (1..=16).map(|blocks| 64 * blocks - 9).collect();
-        tables.extend([0, 1, 31, 32, 54, 56, 63, 64, 118, 120, 500, 960]);
+        let mut tables: Vec<u64> = (1..=16).map(|blocks| 512 * blocks - 65).collect();
+        tables.extend([0, 1, 249, 256, 440, 448, 511, 512, 513, 958, 960, 4003]);
         Amounts {
-            digests: 64,
-            produced: 4,
-            packed: 4,
-            block_bit_claims: 6,
-            length_step: 1,
+            digests: 16,
+            produced: 2,
+            padding_step: 1,
+            packed: 1,
+            block_bit_claims: 2,
+            length_step: 11,
             sampled_rows: 1_000,
             some_damages: 8,
             tables,
             damaged: vec![
                 (0, 100),
-                (9, 400),
-                (55, 400),
-                (100, 200),
-                (119, 200),
-                (500, 20),
-                (1015, 20),
+                (75, 400),
+                (447, 400),
+                (802, 200),
+                (957, 200),
+                (4003, 20),
+                (8127, 20),
             ],
-            wires: vec![(0, 7), (55, 1), (119, 13), (1015, 997)],
+            wires: vec![(0, 7), (447, 1), (957, 13), (8127, 997)],
             several_wires: 400,
-            kinds: vec![(0, 50), (55, 200), (119, 100), (500, 10), (1015, 5)],
-            refused: vec![(0, 20), (55, 20), (56, 10), (500, 2), (1015, 2)],
+            kinds: vec![(0, 50), (447, 200), (958, 100), (4003, 10), (8127, 5)],
+            refused: vec![
+                (0, 20),
+                (3, 20),
+                (446, 20),
+                (448, 10),
+                (453, 10),
+                (4003, 2),
+                (8127, 2),
+            ],
             lines: 1_000,
             claims: 200,
         }
@@ -109,14 +123,15 @@ fn job(name: String, work: impl Fn(&mut Calls) + Send + Sync + 'static) -> Job {
 /// Wires that one job turns over.
 const WIRES_A_JOB: usize = 500;
 
-/// Lengths at which the number of blocks changes, and their neighbours.
+/// Lengths on both sides of where the number of blocks changes, and where the
+/// record fills blocks; the longest is one of them.
 fn beside_block_end(length: u64) -> bool {
-    matches!(length % 64, 55 | 56) || length == LONGEST
+    matches!(length % 512, 0 | 1 | 447 | 448 | 511)
 }
 
-/// Lengths with rows and checks, and with listings where the record ends.
-fn sampled(amounts: &Amounts, seed: u64, length: u64) -> bool {
-    length % amounts.length_step == seed % amounts.length_step || beside_block_end(length)
+/// Lengths that are sampled by a step, which is odd.
+fn sampled(step: u64, seed: u64, length: u64) -> bool {
+    length % step == seed % step || beside_block_end(length)
 }
 
 /// All jobs. Those that take long stand first, so that no thread is left
@@ -165,7 +180,7 @@ fn claim_jobs(jobs: &mut Vec<Job>, amounts: &Amounts, seed: u64) {
     for &(length, step) in amounts.wires.iter().rev() {
         wire_jobs(jobs, length, step, amounts.several_wires, seed);
     }
-    for length in [3, 55, 100] {
+    for length in [27, 447, 805] {
         jobs.push(job(
             format!("other lengths' claims at {length}"),
             move |calls| {
@@ -180,7 +195,8 @@ fn refusal_jobs(jobs: &mut Vec<Job>, amounts: &Amounts) {
     for &(length, times) in amounts.refused.iter().rev() {
         jobs.push(job(format!("refusals at length {length}"), move |calls| {
             let ground = Ground::new(length);
-            refusals::records(calls, length);
+            records::buffers(calls, ground.length);
+            records::faults(calls, ground.length, 4 * times);
             refusals::rows(calls, &ground);
             refusals::checks(calls, &ground, times);
             refusals::lengths_above(calls, &ground);
@@ -200,7 +216,7 @@ fn refusal_jobs(jobs: &mut Vec<Job>, amounts: &Amounts) {
 
 /// The program `packed`: claims of some lengths, bad lines, and every refusal.
 fn packed_jobs(jobs: &mut Vec<Job>, amounts: &Amounts, program: &Program) {
-    for length in [1015, 120, 119, 56, 55, 0] {
+    for length in [8127, 960, 959, 453, 448, 447, 440, 3, 0] {
         let program = program.clone();
         let name = format!("claims of length {length} to packed");
         jobs.push(job(name, move |calls| {
@@ -235,8 +251,9 @@ fn listing_jobs(jobs: &mut Vec<Job>, amounts: &Amounts, seed: u64, program: &Pro
     jobs.push(job(format!("lines to {}", program.name), move |calls| {
         listings::lines(&lines, calls, count);
     }));
-    for length in (0..=LONGEST).filter(|&length| sampled(amounts, seed, length)) {
-        let name = format!("the end of a record of {length} bytes by {}", program.name);
+    let step = amounts.length_step;
+    for length in (0..=LONGEST).filter(|&length| sampled(step, seed, length)) {
+        let name = format!("the end of a record of {length} bits by {}", program.name);
         let program = program.clone();
         jobs.push(job(name, move |calls| {
             listings::record_end(&program, calls, length);
@@ -248,7 +265,7 @@ fn listing_jobs(jobs: &mut Vec<Job>, amounts: &Amounts, seed: u64, program: &Pro
 fn wire_jobs(jobs: &mut Vec<Job>, length: u64, step: usize, several: usize, seed: u64) {
     // Wire 0 is left out; the wires begin anywhere below the step.
     let first = 1 + seed as usize % step;
-    let wires = 513 + 22_528 * ((length as usize + 8) / 64 + 1);
+    let wires = Length::new(length).map_or(0, Length::wires);
     for begin in (first..wires).step_by(step * WIRES_A_JOB) {
         let end = wires.min(begin + step * WIRES_A_JOB);
         let name = format!(
@@ -260,7 +277,7 @@ fn wire_jobs(jobs: &mut Vec<Job>, length: u64, step: usize, several: usize, seed
         }));
     }
     // Fewer of them at long records, which take longer.
-    let count = several / (1 + length as usize / 64);
+    let count = several / (1 + length as usize / 512);
     jobs.push(job(
         format!("several wires turned over at length {length}"),
         move |calls| {
@@ -271,32 +288,48 @@ fn wire_jobs(jobs: &mut Vec<Job>, length: u64, step: usize, several: usize, seed
 
 /// Every length from the longest down.
 fn length_jobs(jobs: &mut Vec<Job>, amounts: &Amounts, seed: u64) {
-    let Amounts {
-        digests,
-        produced,
-        packed,
-        block_bit_claims,
-        sampled_rows,
-        some_damages,
-        ..
-    } = *amounts;
-    for length in (0..=LONGEST).rev() {
-        let rows = sampled(amounts, seed, length);
-        jobs.push(job(format!("length {length}"), move |calls| {
-            sections::digests(calls, length, digests);
-            sections::produced(calls, length, produced);
-            packing::records(calls, length, packed);
-            sections::block_bit_rows(calls, length);
-            sections::block_bit_claims(calls, length, block_bit_claims);
-            if rows {
-                let ground = Ground::new(length);
-                sections::sampled_rows(calls, &ground, sampled_rows);
-                refusals::limits(calls, &ground);
-                packing::limits(calls, ground.length);
-                packing::random_bytes(calls, ground.length);
-                sections::right_claims(calls, &ground);
-                sections::some_damages(calls, &ground, some_damages);
-            }
+    let (digests, produced) = (amounts.digests, amounts.produced);
+    for bits in (0..=LONGEST).rev() {
+        if sampled(amounts.length_step, seed, bits) {
+            jobs.push(sampled_job(amounts, bits));
+        }
+        if sampled(amounts.padding_step, seed, bits) {
+            jobs.push(padding_job(amounts, bits));
+        }
+        jobs.push(job(format!("records of {bits} bits"), move |calls| {
+            let length = Length::new(bits).expect("a length in range");
+            sections::digests(calls, bits, digests);
+            sections::produced(calls, bits, produced);
+            records::bits_after(calls, length, records::NO_ROOM);
+            records::a_byte_off(calls, length, records::NO_ROOM);
         }));
     }
+}
+
+/// Where the record ends, and what of it needs no whole table.
+fn padding_job(amounts: &Amounts, bits: u64) -> Job {
+    let (packed, claims) = (amounts.packed, amounts.block_bit_claims);
+    job(format!("padding of {bits} bits"), move |calls| {
+        packing::records(calls, bits, packed);
+        sections::block_bit_rows(calls, bits);
+        sections::block_bit_claims(calls, bits, claims);
+    })
+}
+
+/// Rows, checks and limits, most of which need the whole table.
+fn sampled_job(amounts: &Amounts, bits: u64) -> Job {
+    let (rows, damages) = (amounts.sampled_rows, amounts.some_damages);
+    job(format!("rows and claims of {bits} bits"), move |calls| {
+        let ground = Ground::new(bits);
+        sections::sampled_rows(calls, &ground, rows);
+        refusals::limits(calls, &ground);
+        let sizes = records::exact(ground.length);
+        records::bits_after(calls, ground.length, sizes);
+        records::a_byte_off(calls, ground.length, sizes);
+        records::other_byte_counts(calls, ground.length);
+        packing::limits(calls, ground.length);
+        packing::random_bytes(calls, ground.length);
+        sections::right_claims(calls, &ground);
+        sections::some_damages(calls, &ground, damages);
+    })
 }

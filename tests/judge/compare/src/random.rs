@@ -2,6 +2,8 @@
 //! numbers on every machine and for any number of threads.
 
 use judge::field::P;
+use judge::length::Length;
+use judge::record::Record;
 
 pub struct Random(u64);
 
@@ -45,11 +47,18 @@ impl Random {
     }
 
     pub fn bytes(&mut self, count: usize) -> Vec<u8> {
-        let mut bytes = Vec::with_capacity(count + 8);
-        while bytes.len() < count {
-            bytes.extend_from_slice(&self.next().to_le_bytes());
+        let mut bytes = vec![0; count.next_multiple_of(8)];
+        for eight in bytes.chunks_exact_mut(8) {
+            eight.copy_from_slice(&self.next().to_le_bytes());
         }
         bytes.truncate(count);
         bytes
+    }
+
+    /// A record of so many bits, which are in range.
+    pub fn record(&mut self, bits: u64) -> Record {
+        let length = Length::new(bits).expect("a length in range");
+        let bytes = self.bytes(length.record_bytes());
+        Record::front(bits, &bytes).expect("a length in range")
     }
 }

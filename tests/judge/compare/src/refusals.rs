@@ -2,52 +2,42 @@
 //! sizes on both sides of each limit.
 
 use judge::field::P;
-use judge::length::{Length, LONGEST};
+use judge::length::LONGEST;
 use judge::operations::{DIGEST_BYTES, ROW_BYTES};
 use judge::refusal::Refusal;
 
 use crate::calls::Calls;
 use crate::claim::{Claim, Ground};
+use crate::random::Random;
+use crate::records;
 
-/// Lengths out of range; some would be in range after losing upper bits.
-pub const LENGTHS_OUT: [u64; 9] = [
-    1016,
-    1017,
-    1024,
+/// Lengths out of range. Some would be in range after losing upper bits, some
+/// after a sum that passes 2^64: so many more bits would round up to 0 bytes,
+/// or make one block.
+pub const LENGTHS_OUT: [u64; 17] = [
+    8128,
+    8129,
+    8135,
+    8136,
+    8192,
     1 << 16,
+    (1 << 16) + 8,
     1 << 32,
-    (1 << 32) + 55,
+    (1 << 32) + 8,
+    (1 << 35) + 3,
     1 << 61,
+    (1 << 61) + 3,
     1 << 63,
+    u64::MAX - 63,
+    u64::MAX - 7,
+    u64::MAX - 6,
     u64::MAX,
 ];
 
-/// Record lengths out of range that can really be lent.
-const RECORDS_OUT: [usize; 6] = [1016, 1017, 1024, 2048, 65_536, 65_536 + 55];
-
-/// Digest and produce: refusal 2, then 4.
-pub fn records(calls: &mut Calls, bytes: u64) {
-    let exact = Length::new(bytes).map_or(0, Length::assignment_bytes);
-    let in_range = [bytes as usize];
-    for &length in in_range.iter().chain(&RECORDS_OUT) {
-        let record = calls.random.bytes(length);
-        for out_len in (0..=DIGEST_BYTES + 8).chain([DIGEST_BYTES * 4]) {
-            calls.digest(&record, out_len);
-        }
-        for out_len in [
-            0,
-            1,
-            8,
-            exact - 8,
-            exact - 1,
-            exact,
-            exact + 1,
-            exact + 7,
-            exact + 800,
-        ] {
-            calls.produce(&record, out_len);
-        }
-    }
+/// These, and lengths that would be the one given after losing upper bits.
+pub fn lengths_out(bits: u64) -> Vec<u64> {
+    let widened = [13, 16, 32, 61, 63].map(|place| (1 << place) + bits);
+    [&LENGTHS_OUT[..], &widened].concat()
 }
 
 /// Rows: refusal 2, then 3, then 4.
@@ -78,7 +68,10 @@ pub fn rows(calls: &mut Calls, ground: &Ground) {
         ROW_BYTES + 12,
         5000,
     ];
-    for length in [ground.bytes()].into_iter().chain(LENGTHS_OUT) {
+    for length in [ground.bits()]
+        .into_iter()
+        .chain(lengths_out(ground.bits()))
+    {
         for number in numbers {
             for size in sizes {
                 calls.row(&ground.table, length, number, size);
@@ -112,9 +105,8 @@ struct Faulty {
     assignment: Vec<u8>,
 }
 
-fn faulty(calls: &mut Calls, right: &Claim, length: u64, has: impl Fn(u8) -> bool) -> Faulty {
-    let random = &mut calls.random;
-    let mut claim = right.clone();
+/// The faults of refusals 7, 8 and 9, which are in the entries.
+fn spoil(claim: &mut Claim, has: impl Fn(u8) -> bool, random: &mut Random) {
     if has(9) {
         let wire = random.range(257, claim.wires());
         let turned = 1 - claim.entry(wire);
@@ -128,6 +120,12 @@ fn faulty(calls: &mut Calls, right: &Claim, length: u64, has: impl Fn(u8) -> boo
     if has(7) {
         claim.set(0, random.pick(&[0, 2, P, P + 2, P - 1, u64::MAX]));
     }
+}
+
+fn faulty(calls: &mut Calls, right: &Claim, length: u64, has: impl Fn(u8) -> bool) -> Faulty {
+    let random = &mut calls.random;
+    let mut claim = right.clone();
+    spoil(&mut claim, &has, random);
     let mut assignment = claim.assignment;
     if has(6) {
         let exact = assignment.len();
@@ -149,7 +147,7 @@ fn faulty(calls: &mut Calls, right: &Claim, length: u64, has: impl Fn(u8) -> boo
     }
     Faulty {
         length: if has(2) {
-            random.pick(&LENGTHS_OUT)
+            random.pick(&lengths_out(length))
         } else {
             length
         },
@@ -168,7 +166,7 @@ pub fn checks(calls: &mut Calls, ground: &Ground, times: usize) {
             length,
             digest,
             assignment,
-        } = faulty(calls, &right, ground.bytes(), has);
+        } = faulty(calls, &right, ground.bits(), has);
         let note = format!("the faults of refusals {faults:?}");
         let judged = calls.check(&ground.table, length, &digest, &assignment, &note);
         calls.must_be(first(&faults), judged, &note);
@@ -180,21 +178,21 @@ pub fn checks(calls: &mut Calls, ground: &Ground, times: usize) {
 /// in a buffer of 1,955 and of 1,956 bytes; one byte less than a digest, its
 /// buffer, an assignment and its buffer have.
 pub fn limits(calls: &mut Calls, ground: &Ground) {
-    let (bytes, all) = (ground.bytes(), ground.length.rows() as u64);
+    let (bits, all) = (ground.bits(), ground.length.rows() as u64);
     for number in [all - 1, all] {
         for size in [ROW_BYTES - 1, ROW_BYTES] {
-            calls.row(&ground.table, bytes, number, size);
+            calls.row(&ground.table, bits, number, size);
         }
     }
-    let record = calls.random.bytes(ground.length.bytes());
+    let record = calls.random.record(bits);
     let Claim {
         digest, assignment, ..
     } = Claim::of(&record);
     let short = &assignment[..assignment.len() - 1];
-    calls.digest(&record, DIGEST_BYTES - 1);
-    calls.produce(&record, short.len());
+    let sizes = [DIGEST_BYTES - 1, short.len()];
+    records::both(calls, bits, record.bytes(), sizes, 4, "a byte less");
     for (digest, assignment, number) in [(&digest[..31], &assignment[..], 5), (&digest, short, 6)] {
-        let judged = calls.check(&ground.table, bytes, digest, assignment, "a byte less");
+        let judged = calls.check(&ground.table, bits, digest, assignment, "a byte less");
         calls.must_be(number, judged, "a byte less");
     }
     calls
@@ -202,26 +200,32 @@ pub fn limits(calls: &mut Calls, ground: &Ground) {
         .count("lengths with both sides of the limits", 1);
 }
 
-/// Refusal 2 at every length above 1,015 up to 2,000.
+/// Refusal 2 at the thousand lengths above 8,127, and at those out of range
+/// that the length might be taken for: all else is right for this length.
 pub fn lengths_above(calls: &mut Calls, ground: &Ground) {
-    let claim = ground.claim(&mut calls.random);
-    for length in LONGEST + 1..=2_000 {
-        length_above(calls, ground, length, &claim);
+    let record = calls.random.record(ground.bits());
+    let claim = Claim::of(&record);
+    for length in (LONGEST + 1..=LONGEST + 1_000).chain(lengths_out(ground.bits())) {
+        length_above(calls, ground, length, record.bytes(), &claim);
     }
-    // At 1,016 once more with the sizes that 17 blocks would have, so that
-    // nothing but the length is wrong before the rows.
+    // At 8,128 once more with the sizes that it would have, with 17 blocks, so
+    // that nothing but the length is wrong before the rows.
     let mut longer = claim;
     longer.assignment.resize(8 * (513 + 22_528 * 17), 0);
-    length_above(calls, ground, LONGEST + 1, &longer);
+    length_above(calls, ground, LONGEST + 1, &[0; 1016], &longer);
 }
 
-fn length_above(calls: &mut Calls, ground: &Ground, length: u64, claim: &Claim) {
+fn length_above(calls: &mut Calls, ground: &Ground, length: u64, record: &[u8], claim: &Claim) {
+    let note = "a length above 8,127";
     let judged = calls.check(&ground.table, length, &claim.digest, &claim.assignment, "");
-    calls.must_be(Refusal::Length.number(), judged, "a length above 1,015");
+    calls.must_be(Refusal::Length.number(), judged, note);
     calls.row(&ground.table, length, 0, ROW_BYTES);
-    let record = calls.random.bytes(length as usize);
-    calls.digest(&record, DIGEST_BYTES);
-    calls.produce(&record, claim.assignment.len());
+    let sizes = [DIGEST_BYTES, claim.assignment.len()];
+    records::both(calls, length, record, sizes, 2, note);
+    if length < 10_000 {
+        let record = vec![0; length.div_ceil(8) as usize];
+        records::both(calls, length, &record, sizes, 2, note);
+    }
 }
 
 /// "Slices that are only read may overlap" (docs/HOST.md): the digest is 32

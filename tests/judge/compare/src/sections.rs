@@ -3,6 +3,7 @@
 use judge::forms::RowNumber;
 use judge::length::{Length, LONGEST};
 use judge::operations::{DIGEST_BYTES, ROW_BYTES};
+use judge::record::Record;
 use judge::refusal::Refusal;
 use judge::rows;
 
@@ -15,14 +16,16 @@ use crate::forge::forge;
 pub const START_ROWS: u64 = 256;
 pub const BLOCK_ROWS: u64 = 32_320;
 
-/// A record of that length: random, and now and then all zeros or all ones.
-pub fn record(calls: &mut Calls, length: u64) -> Vec<u8> {
-    let length = length as usize;
-    match calls.random.below(8) {
-        0 => vec![0; length],
-        1 => vec![0xff; length],
-        _ => calls.random.bytes(length),
-    }
+/// A record of so many bits: random, and now and then all zeros or all ones.
+pub fn record(calls: &mut Calls, bits: u64) -> Record {
+    let random = calls.random.record(bits);
+    let byte = match calls.random.below(8) {
+        0 => 0x00,
+        1 => 0xff,
+        _ => return random,
+    };
+    let same = vec![byte; random.bytes().len()];
+    Record::front(bits, &same).expect("a length in range")
 }
 
 /// The exact size or a longer one.
@@ -31,21 +34,23 @@ pub fn enough(calls: &mut Calls, bytes: usize) -> usize {
     calls.random.pick(&[bytes, bytes + more])
 }
 
-pub fn digests(calls: &mut Calls, length: u64, count: usize) {
+pub fn digests(calls: &mut Calls, bits: u64, count: usize) {
     for _ in 0..count {
-        let record = record(calls, length);
+        let record = record(calls, bits);
         let out_len = enough(calls, DIGEST_BYTES);
-        calls.digest(&record, out_len);
+        let judged = calls.digest(bits, record.bytes(), out_len, "a record");
+        calls.must_be(0, judged, "a record's digest");
     }
     calls.tally.count("lengths with digests", 1);
 }
 
-pub fn produced(calls: &mut Calls, length: u64, count: usize) {
-    let exact = Length::new(length).map_or(0, Length::assignment_bytes);
+pub fn produced(calls: &mut Calls, bits: u64, count: usize) {
+    let exact = Length::new(bits).map_or(0, Length::assignment_bytes);
     for _ in 0..count {
-        let record = record(calls, length);
+        let record = record(calls, bits);
         let out_len = enough(calls, exact);
-        calls.produce(&record, out_len);
+        let judged = calls.produce(bits, record.bytes(), out_len, "a record");
+        calls.must_be(0, judged, "a record's assignment");
     }
     calls.tally.count("lengths with produced assignments", 1);
 }
@@ -54,20 +59,20 @@ pub fn produced(calls: &mut Calls, length: u64, count: usize) {
 pub fn whole_table(calls: &mut Calls, ground: &Ground) {
     for row in 0..ground.length.rows() as u64 {
         let out_len = enough(calls, ROW_BYTES);
-        calls.row(&ground.table, ground.bytes(), row, out_len);
+        calls.row(&ground.table, ground.bits(), row, out_len);
     }
     calls.tally.count("whole tables of rows", 1);
 }
 
 /// The rows of all block bits in the last two blocks, where the padding is.
 /// Nothing here needs the whole table.
-pub fn block_bit_rows(calls: &mut Calls, bytes: u64) {
-    let length = Length::new(bytes).expect("a length in range");
+pub fn block_bit_rows(calls: &mut Calls, bits: u64) {
+    let length = Length::new(bits).expect("a length in range");
     for block in length.blocks().saturating_sub(2)..length.blocks() {
         let first = START_ROWS + BLOCK_ROWS * block as u64;
         for (number, row) in rows::block_bit_rows(length, block).iter() {
             let out_len = enough(calls, ROW_BYTES);
-            calls.row_at_hand(row, bytes, first + u64::from(number.0), out_len);
+            calls.row_at_hand(row, bits, first + u64::from(number.0), out_len);
         }
     }
     calls.tally.count("lengths with all rows of padding", 1);
@@ -76,10 +81,10 @@ pub fn block_bit_rows(calls: &mut Calls, bytes: u64) {
 /// So many claims with one block bit changed: a padding bit turned over, a
 /// record bit set to 2. The row of that bit refuses them. Nothing here needs
 /// the whole table.
-pub fn block_bit_claims(calls: &mut Calls, bytes: u64, count: usize) {
-    let length = Length::new(bytes).expect("a length in range");
-    let mut claim = Claim::of(&record(calls, bytes));
-    let (padding, end) = (8 * length.bytes(), 512 * length.blocks());
+pub fn block_bit_claims(calls: &mut Calls, bits: u64, count: usize) {
+    let length = Length::new(bits).expect("a length in range");
+    let mut claim = Claim::of(&record(calls, bits));
+    let (padding, end) = (length.bits(), 512 * length.blocks());
     for _ in 0..count {
         let any = calls.random.below(end);
         let bit = calls.random.pick(&[padding, end - 1, any]);
@@ -90,7 +95,7 @@ pub fn block_bit_claims(calls: &mut Calls, bytes: u64, count: usize) {
         let known = Err(Refusal::Unsatisfied(RowNumber(row as u32)));
         claim.set(wire, value);
         let note = format!("wire {wire} set to {value}");
-        calls.check_known(known, bytes, &claim.digest, &claim.assignment, &note);
+        calls.check_known(known, bits, &claim.digest, &claim.assignment, &note);
         claim.set(wire, right);
     }
     calls.tally.count("lengths with block bits changed", 1);
@@ -107,7 +112,7 @@ pub fn sampled_rows(calls: &mut Calls, ground: &Ground, count: usize) {
     numbers.extend((0..count).map(|_| calls.random.below(all as usize) as u64));
     for row in numbers {
         let out_len = enough(calls, ROW_BYTES);
-        calls.row(&ground.table, ground.bytes(), row, out_len);
+        calls.row(&ground.table, ground.bits(), row, out_len);
     }
     calls.tally.count("lengths with sampled rows", 1);
 }
@@ -116,7 +121,7 @@ pub fn check(calls: &mut Calls, ground: &Ground, claim: &Claim) {
     let (digest, assignment) = (&claim.digest, &claim.assignment);
     let judged = calls.check(
         &ground.table,
-        ground.bytes(),
+        ground.bits(),
         digest,
         assignment,
         &claim.note,
@@ -188,7 +193,7 @@ pub fn some_damages(calls: &mut Calls, ground: &Ground, count: usize) {
 /// Every `step`-th wire from `first` on, before `end`: turned over on the way
 /// by the forge, and set to a number that is no bit in a right claim.
 pub fn each_wire(calls: &mut Calls, ground: &Ground, first: usize, end: usize, step: usize) {
-    let record = calls.random.bytes(ground.length.bytes());
+    let record = calls.random.record(ground.bits());
     let right = Claim::of(&record);
     for wire in (first..end).step_by(step) {
         check(calls, ground, &forge(&record, &[wire]));
@@ -205,7 +210,7 @@ pub fn each_wire(calls: &mut Calls, ground: &Ground, first: usize, end: usize, s
 pub fn several_wires(calls: &mut Calls, ground: &Ground, count: usize) {
     let wires = ground.length.wires();
     for _ in 0..count {
-        let record = calls.random.bytes(ground.length.bytes());
+        let record = calls.random.record(ground.bits());
         let turned: Vec<usize> = (0..calls.random.range(2, 6))
             .map(|_| calls.random.range(1, wires))
             .collect();
@@ -219,8 +224,8 @@ pub fn other_lengths(calls: &mut Calls, ground: &Ground) {
     let blocks = ground.length.blocks();
     let same = |&length: &u64| Length::new(length).map(Length::blocks) == Ok(blocks);
     for length in (0..=LONGEST).filter(same) {
-        let mut claim = Claim::of(&calls.random.bytes(length as usize));
-        claim.note = format!("the claim of a record of {length} bytes");
+        let mut claim = Claim::of(&calls.random.record(length));
+        claim.note = format!("the claim of a record of {length} bits");
         check(calls, ground, &claim);
         calls.tally.count("claims of another length", 1);
     }

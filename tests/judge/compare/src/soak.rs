@@ -7,8 +7,10 @@ use std::time::{Duration, Instant};
 
 use host::Empty;
 use judge::check::check_with;
+use judge::length::LONGEST;
 use judge::operations::{self, DIGEST_BYTES, ROW_BYTES};
 use judge::packing;
+use judge::record::spare_bits;
 
 use crate::answers::{self, told};
 use crate::claim::{Claim, Ground};
@@ -18,13 +20,14 @@ use crate::random::Random;
 /// By how many kB the process may vary once all its memory was used once.
 const SLACK: u64 = 1024;
 const INTERVAL: Duration = Duration::from_secs(10);
-const LENGTHS: [u64; 8] = [0, 1, 55, 56, 63, 119, 300, 1015];
+const LENGTHS: [u64; 9] = [0, 1, 440, 447, 448, 510, 957, 2403, 8127];
 const ROWS_A_LENGTH: usize = 500;
 /// What buffers hold before a call.
 const OLD: u8 = 0xa5;
 
 /// A record with its right claim, and that packed.
 struct Record {
+    bits: u64,
     bytes: Vec<u8>,
     claim: Claim,
     packed: Vec<u8>,
@@ -59,7 +62,7 @@ fn listed(ground: &Ground, row: u64) -> Listed {
     let mut bytes = vec![OLD; ROW_BYTES];
     let answer = operations::row_with(&ground.table, ground.length, row, &mut bytes);
     Listed {
-        length: ground.bytes(),
+        length: ground.bits(),
         row,
         bytes,
         answer: answers::row(answer),
@@ -74,9 +77,9 @@ fn checked(ground: &Ground, claim: Claim) -> Checked {
         &claim.digest,
     );
     let mut packed = vec![OLD; ground.length.packed_bytes()];
-    let pack_judged = packing::pack(ground.bytes(), &claim.assignment, &mut packed);
+    let pack_judged = packing::pack(ground.bits(), &claim.assignment, &mut packed);
     Checked {
-        length: ground.bytes(),
+        length: ground.bits(),
         claim,
         answer: answers::plain(judged),
         pack_answer: answers::plain(pack_judged),
@@ -93,8 +96,8 @@ impl Pool {
                 let row = random.below(ground.length.rows() + 1);
                 rows.push(listed(&ground, row as u64));
             }
-            let bytes = random.bytes(length as usize);
-            let claim = Claim::of(&bytes);
+            let record = random.record(length);
+            let claim = Claim::of(&record);
             let right = checked(&ground, claim.clone());
             let packed = right.packed.clone();
             checks.push(right);
@@ -104,7 +107,8 @@ impl Pool {
                 checks.push(checked(&ground, damaged));
             }
             records.push(Record {
-                bytes,
+                bits: length,
+                bytes: record.bytes().to_vec(),
                 claim,
                 packed,
             });
@@ -140,9 +144,10 @@ impl Pool {
     fn digest(&mut self, random: &mut Random) -> Result<(), String> {
         let record = random.below(self.records.len());
         self.buffer(DIGEST_BYTES);
-        let Record { bytes, claim, .. } = &self.records[record];
-        let answer = host::digest(Empty::Null, bytes, &mut self.buffer[..DIGEST_BYTES]);
-        self.told("digest", 0, answer, &claim.digest)
+        let of = &self.records[record];
+        let out = &mut self.buffer[..DIGEST_BYTES];
+        let answer = host::digest(Empty::Null, of.bits, &of.bytes, out);
+        self.told("digest", 0, answer, &of.claim.digest)
     }
 
     fn row(&mut self, random: &mut Random) -> Result<(), String> {
@@ -158,9 +163,10 @@ impl Pool {
         let record = random.below(self.records.len());
         let len = self.records[record].claim.assignment.len();
         self.buffer(len);
-        let Record { bytes, claim, .. } = &self.records[record];
-        let answer = host::produce(Empty::Null, bytes, &mut self.buffer[..len]);
-        self.told("produce", 0, answer, &claim.assignment)
+        let of = &self.records[record];
+        let out = &mut self.buffer[..len];
+        let answer = host::produce(Empty::Null, of.bits, &of.bytes, out);
+        self.told("produce", 0, answer, &of.claim.assignment)
     }
 
     fn check(&mut self, random: &mut Random) -> Result<(), String> {
@@ -191,7 +197,7 @@ impl Pool {
         let len = self.records[number].claim.assignment.len();
         self.buffer(len);
         let record = &mut self.records[number];
-        let (length, last) = (record.bytes.len() as u64, record.packed.len() - 1);
+        let (length, last) = (record.bits, record.packed.len() - 1);
         let out = &mut self.buffer[..len];
         if random.one_in(4) {
             record.packed[last] ^= 1;
@@ -204,29 +210,44 @@ impl Pool {
         self.told("unpack", 0, answer, &claim.assignment)
     }
 
-    /// A call that is refused by the sizes alone, refusals 2 to 6 and 11.
+    /// A record with a spare bit set, to digest or to produce.
+    fn spare_bit(&mut self, random: &mut Random) -> Result<(), String> {
+        self.buffer(ROW_BYTES);
+        let with_spare: Vec<&Record> = self.records.iter().filter(|of| of.bits % 8 != 0).collect();
+        let of = with_spare[random.below(with_spare.len())];
+        let mut bytes = of.bytes.clone();
+        bytes[of.bits as usize / 8] |= spare_bits(of.bits);
+        let call = random.pick(&[host::digest, host::produce]);
+        let answer = call(Empty::Null, of.bits, &bytes, &mut self.buffer);
+        self.told("a record with spare bits", 14, answer, &[OLD; ROW_BYTES])
+    }
+
+    /// A call that is refused by the sizes alone, refusals 2 to 6, 11 and 13.
     fn refused(&mut self, random: &mut Random) -> Result<(), String> {
         let record = random.below(self.records.len());
         self.buffer(ROW_BYTES);
         let Record {
+            bits,
             bytes,
             claim,
             packed,
         } = &self.records[record];
-        let (length, none) = (bytes.len() as u64, Empty::Null);
+        let (length, none) = (*bits, Empty::Null);
         if random.one_in(9) {
             let answer = host::unpack(none, length, bytes, &mut self.buffer);
             return self.told("a refused unpack", 11, answer, &[OLD; ROW_BYTES]);
         }
         let short = &mut self.buffer[..DIGEST_BYTES - 1];
-        let (must, answer) = match random.below(8) {
-            0 => (4, host::digest(none, bytes, short)),
-            1 => (2, host::produce(none, &claim.assignment, short)),
+        let (must, answer) = match random.below(10) {
+            0 => (4, host::digest(none, length, bytes, short)),
+            1 => (2, host::produce(none, LONGEST + 1, bytes, short)),
             2 => (4, host::row(none, length, 0, short)),
             3 => (3, host::row(none, length, u64::MAX, short)),
             4 => (4, host::pack(none, length, &claim.assignment, short)),
             5 => (4, host::unpack(none, length, packed, short)),
             6 => (5, host::check(none, length, &[], &claim.assignment)),
+            7 => (13, host::digest(none, length, packed, short)),
+            8 => (13, host::produce(none, length, packed, short)),
             _ => (6, host::check(none, length, &claim.digest, bytes)),
         };
         self.told("a refused call", must, answer, &[OLD; ROW_BYTES])
@@ -237,7 +258,8 @@ impl Pool {
         match random.below(100) {
             0..=54 => self.row(random),
             55..=89 => self.digest(random),
-            90..=94 => self.refused(random),
+            90..=93 => self.refused(random),
+            94 => self.spare_bit(random),
             95 | 96 => self.produce(random),
             97 => self.pack(random),
             98 => self.unpack(random),

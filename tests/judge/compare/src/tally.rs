@@ -26,15 +26,15 @@ const OPERATIONS: [(Operation, &str); 6] = [
 ];
 
 /// Refusals that the library gives, 0 for none.
-const REFUSALS: [usize; 12] = [0, 2, 3, 4, 5, 6, 7, 8, 9, 10, 11, 12];
+const REFUSALS: [usize; 14] = [0, 2, 3, 4, 5, 6, 7, 8, 9, 10, 11, 12, 13, 14];
 
 #[derive(Default)]
 pub struct Tally {
     /// Calls by operation and by the judge's refusal, 0 for none.
-    calls: [[u64; 13]; 6],
+    calls: [[u64; 15]; 6],
     /// Other things counted, by their name.
     counts: BTreeMap<&'static str, u64>,
-    /// Rows seen as the failing one: record length and row number.
+    /// Rows seen as the failing one: the record's bits and the row number.
     failing: HashSet<(u64, u32)>,
     pub differences: Vec<String>,
 }
@@ -96,7 +96,7 @@ impl fmt::Display for Tally {
         }
         let all = self.failing.len();
         writeln!(f, "{all:>10}  different failing rows")?;
-        let seen = self.failing.iter().filter(|row| row.0 == 55).count();
-        write!(f, "{seen:>10}  of them at length 55, which has 32832 rows")
+        let seen = self.failing.iter().filter(|row| row.0 == 447).count();
+        write!(f, "{seen:>10}  of them at 447 bits, which have 32832 rows")
     }
 }

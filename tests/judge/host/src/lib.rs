@@ -9,34 +9,36 @@ use std::ptr;
 mod c {
     extern "C" {
         pub fn sm3rows_digest(
+            bits: u64,
             record: *const u8,
             record_len: usize,
             out: *mut u8,
             out_len: usize,
         ) -> u64;
-        pub fn sm3rows_row(length: u64, row: u64, out: *mut u8, out_len: usize) -> u64;
+        pub fn sm3rows_row(bits: u64, row: u64, out: *mut u8, out_len: usize) -> u64;
         pub fn sm3rows_produce(
+            bits: u64,
             record: *const u8,
             record_len: usize,
             out: *mut u8,
             out_len: usize,
         ) -> u64;
         pub fn sm3rows_check(
-            length: u64,
+            bits: u64,
             digest: *const u8,
             digest_len: usize,
             assignment: *const u8,
             assignment_len: usize,
         ) -> u64;
         pub fn sm3rows_pack(
-            length: u64,
+            bits: u64,
             assignment: *const u8,
             assignment_len: usize,
             out: *mut u8,
             out_len: usize,
         ) -> u64;
         pub fn sm3rows_unpack(
-            length: u64,
+            bits: u64,
             packed: *const u8,
             packed_len: usize,
             out: *mut u8,
@@ -72,33 +74,33 @@ impl Empty {
 // Each call lends slices that live through it, and none overlaps `out`, which
 // the borrows of the arguments see to.
 
-pub fn digest(empty: Empty, record: &[u8], out: &mut [u8]) -> u64 {
+pub fn digest(empty: Empty, bits: u64, record: &[u8], out: &mut [u8]) -> u64 {
     let (from, to) = (empty.of(record), empty.of_mut(out));
-    unsafe { c::sm3rows_digest(from, record.len(), to, out.len()) }
+    unsafe { c::sm3rows_digest(bits, from, record.len(), to, out.len()) }
 }
 
-pub fn row(empty: Empty, length: u64, row: u64, out: &mut [u8]) -> u64 {
-    unsafe { c::sm3rows_row(length, row, empty.of_mut(out), out.len()) }
+pub fn row(empty: Empty, bits: u64, row: u64, out: &mut [u8]) -> u64 {
+    unsafe { c::sm3rows_row(bits, row, empty.of_mut(out), out.len()) }
 }
 
-pub fn produce(empty: Empty, record: &[u8], out: &mut [u8]) -> u64 {
+pub fn produce(empty: Empty, bits: u64, record: &[u8], out: &mut [u8]) -> u64 {
     let (from, to) = (empty.of(record), empty.of_mut(out));
-    unsafe { c::sm3rows_produce(from, record.len(), to, out.len()) }
+    unsafe { c::sm3rows_produce(bits, from, record.len(), to, out.len()) }
 }
 
-pub fn check(empty: Empty, length: u64, digest: &[u8], assignment: &[u8]) -> u64 {
+pub fn check(empty: Empty, bits: u64, digest: &[u8], assignment: &[u8]) -> u64 {
     let (held, read) = (empty.of(digest), empty.of(assignment));
-    unsafe { c::sm3rows_check(length, held, digest.len(), read, assignment.len()) }
+    unsafe { c::sm3rows_check(bits, held, digest.len(), read, assignment.len()) }
 }
 
-pub fn pack(empty: Empty, length: u64, assignment: &[u8], out: &mut [u8]) -> u64 {
+pub fn pack(empty: Empty, bits: u64, assignment: &[u8], out: &mut [u8]) -> u64 {
     let (from, to) = (empty.of(assignment), empty.of_mut(out));
-    unsafe { c::sm3rows_pack(length, from, assignment.len(), to, out.len()) }
+    unsafe { c::sm3rows_pack(bits, from, assignment.len(), to, out.len()) }
 }
 
-pub fn unpack(empty: Empty, length: u64, packed: &[u8], out: &mut [u8]) -> u64 {
+pub fn unpack(empty: Empty, bits: u64, packed: &[u8], out: &mut [u8]) -> u64 {
     let (from, to) = (empty.of(packed), empty.of_mut(out));
-    unsafe { c::sm3rows_unpack(length, from, packed.len(), to, out.len()) }
+    unsafe { c::sm3rows_unpack(bits, from, packed.len(), to, out.len()) }
 }
 
 /// Gives memory that was freed back to the system, so that memory taken

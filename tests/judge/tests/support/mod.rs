@@ -8,24 +8,34 @@ use std::process::{Command, Stdio};
 use judge::field::P;
 use judge::forms::{Row, RowNumber, RowTable, Term};
 use judge::length::Length;
+use judge::record::Record;
 
-/// The lengths at which every row is evaluated.
-pub const LENGTHS: [u64; 9] = [0, 1, 55, 56, 63, 64, 119, 120, 1015];
+/// The lengths at which every row is evaluated: whole bytes, and records that
+/// end inside a byte, on both sides of where the blocks end.
+pub const LENGTHS: [u64; 15] = [
+    0, 1, 8, 13, 440, 447, 448, 450, 511, 512, 513, 959, 960, 8120, 8127,
+];
 
-pub fn length(bytes: u64) -> Length {
-    Length::new(bytes).expect("a length in range")
+pub fn length(bits: u64) -> Length {
+    Length::new(bits).expect("a length in range")
+}
+
+/// A record of so many bits, of repeatable bytes.
+pub fn record(bits: u64, seed: u64) -> Record {
+    let bytes = bytes(length(bits).record_bytes(), seed);
+    Record::front(bits, &bytes).expect("a record in range")
 }
 
 /// Repeatable bytes without a pattern (a linear congruence's upper bits).
-pub fn record(bytes: u64, seed: u64) -> Vec<u8> {
-    let mut state = seed.wrapping_add(1 + bytes);
+pub fn bytes(count: usize, seed: u64) -> Vec<u8> {
+    let mut state = seed.wrapping_add(1 + count as u64);
     let mut next = || {
         state = state
             .wrapping_mul(6364136223846793005)
             .wrapping_add(1442695040888963407);
         (state >> 56) as u8
     };
-    (0..bytes).map(|_| next()).collect()
+    (0..count).map(|_| next()).collect()
 }
 
 /// Buffers are lent full of this byte, to see what stays.
