@@ -56,7 +56,7 @@ digest libgcrypt
 for feature in intel-avx intel-avx2 intel-bmi2; do
     digest libgcrypt "$feature"
 done
-echo "inside a byte, whole, instructions of each, and their ratio"
+echo "a record that ends inside a byte beside whole bytes: bits of both, instructions of both, ratio"
 for pair in "501 504" "8117 8120" "8127 8120"; do
     beside digest "${pair% *}" "${pair#* }"
 done
