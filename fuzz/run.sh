@@ -41,8 +41,8 @@ build entry "$root/fuzz/lent.c" "$archive" 2> /dev/null ||
 build line "$root/fuzz/program.c" "$work/rows.o" "$work/steps.o"
 build packed "$root/fuzz/program.c" "$work/packed.o" "$archive"
 
-# One input for each function, for a record that ends inside a byte and for refusals of records, and some lines, to begin
-# with; claims to `packed` are made by its harness.
+# One input for each function, some for records of 37, 447, 448 and 8,127 bits and for their refusals, and some lines, to
+# begin with; claims to `packed` are made by its harness.
 mkdir -p "$work/entry.corpus" "$work/line.corpus" "$work/packed.corpus"
 printf '\000\000\000\030\000\040\000\000\000abcabc' > "$work/entry.corpus/digest"
 printf '\000\000\000\045\000\040\000\000\000abcde' > "$work/entry.corpus/inside"
@@ -51,6 +51,9 @@ printf '\000\000\000\045\000\040\000\300\000abcde' > "$work/entry.corpus/spare"
 printf '\000\351\000\340\000\040\000\000\000abc' > "$work/entry.corpus/wide"
 printf '\001\000\000\045\004\000\000' > "$work/entry.corpus/row"
 printf '\002\000\000\045\000\200\000\000\000abcde' > "$work/entry.corpus/produce"
+printf '\002\161\007\000\200\000\000\000abcde' > "$work/entry.corpus/one-block"
+printf '\002\161\010\000\200\000\000\000abcde' > "$work/entry.corpus/two-blocks"
+printf '\002\166\007\000\200\000\000\000abcde' > "$work/entry.corpus/longest"
 printf '\003\000\000\045\000\001\000\000\002\001\000\003abcabc' > "$work/entry.corpus/check"
 printf '\004\000\000\045\000\001\000\000\002\001\000\003abcabc' > "$work/entry.corpus/pack"
 printf '\005\000\000\045\000\005\200\000' > "$work/entry.corpus/unpack"
