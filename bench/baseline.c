@@ -98,18 +98,18 @@ static uint64_t *put_block(uint64_t *out, const uint8_t *block, uint32_t state[8
     return out;
 }
 
-void baseline_produce(const uint8_t *record, size_t length, uint64_t *out)
+void baseline_produce(size_t bits, const uint8_t *record, uint64_t *out)
 {
     static const uint32_t start[8] = {0x7380166f, 0x4914b2b9, 0x172442d7, 0xda8a0600,
                                       0xa96f30bc, 0x163138aa, 0xe38dee4d, 0xb0fb0e4e};
     uint8_t message[1024] = {0};
-    size_t blocks = (length + 8) / 64 + 1;
-    if (length > 0)
-        memcpy(message, record, length);
-    message[length] = 0x80;
-    /* 8 x 1,015 has 13 bits. */
-    message[64 * blocks - 2] = (uint8_t)(8 * length >> 8);
-    message[64 * blocks - 1] = (uint8_t)(8 * length);
+    size_t blocks = (bits + 64) / 512 + 1;
+    if (bits > 0)
+        memcpy(message, record, (bits + 7) / 8);
+    message[bits / 8] |= (uint8_t)(0x80 >> bits % 8);
+    /* 8,127 has 13 bits. */
+    message[64 * blocks - 2] = (uint8_t)(bits >> 8);
+    message[64 * blocks - 1] = (uint8_t)bits;
 
     uint32_t state[8];
     memcpy(state, start, sizeof state);

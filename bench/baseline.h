@@ -7,8 +7,8 @@
 #include <stdint.h>
 
 /* The producer: the hash's words in the layout's order, one uint64_t, 0 or 1, for each wire. The record has at most
- * 1,015 bytes and out has room for all wires. */
-void baseline_produce(const uint8_t *record, size_t length, uint64_t *out);
+ * 8,127 bits, the bits after its last one in its last byte are zero, and out has room for all wires. */
+void baseline_produce(size_t bits, const uint8_t *record, uint64_t *out);
 
 /* Packing of an assignment, `wires` entries of 8 bytes: 0, or 10 with the lowest wire that is no bit from bit 8 on, and
  * then no byte is written. Wires are 32 x k + 1, so one stands alone in the last byte; out has room for 4 x k + 1. The

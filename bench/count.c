@@ -1,5 +1,6 @@
-/* Calls to be counted by bench/count.sh, which builds and runs this: `count SIDE BYTES CALLS [FEATURE]` makes so many calls
- * of one side for a record of so many bytes. libgcrypt leaves the processor's feature of that name aside. */
+/* Calls to be counted by bench/count.sh, which builds and runs this: `count SIDE BITS CALLS [FEATURE]` makes so many calls
+ * of one side for a record of so many bits; OpenSSL and libgcrypt take whole bytes alone. libgcrypt leaves the
+ * processor's feature of that name aside. */
 
 #include <stdint.h>
 #include <stdlib.h>
@@ -9,58 +10,60 @@
 #include <openssl/evp.h>
 
 #include "baseline.h"
+#include "record.h"
 #include "sm3rows.h"
 
-static uint8_t record[1015], digest[32], packed[SM3ROWS_PACKED_BYTES(1015)];
-static uint64_t assignment[SM3ROWS_WIRES(1015)];
+static uint8_t record[RECORD_MOST], digest[SM3ROWS_DIGEST_BYTES];
+static uint8_t packed[SM3ROWS_PACKED_BYTES(SM3ROWS_MOST_BITS)];
+static uint64_t assignment[SM3ROWS_WIRES(SM3ROWS_MOST_BITS)];
 static EVP_MD *kind;
 static EVP_MD_CTX *context;
 
-static void by_digest(size_t bytes)
+static void by_digest(uint64_t bits)
 {
-    sm3rows_digest(record, bytes, digest, sizeof digest);
+    go_on(sm3rows_digest(bits, record, SM3ROWS_RECORD_BYTES(bits), digest, sizeof digest));
 }
 
-static void by_openssl(size_t bytes)
+static void by_openssl(uint64_t bits)
 {
     EVP_DigestInit_ex(context, kind, NULL);
-    EVP_DigestUpdate(context, record, bytes);
+    EVP_DigestUpdate(context, record, bits / 8);
     EVP_DigestFinal_ex(context, digest, NULL);
 }
 
-static void by_libgcrypt(size_t bytes)
+static void by_libgcrypt(uint64_t bits)
 {
-    gcry_md_hash_buffer(GCRY_MD_SM3, digest, record, bytes);
+    gcry_md_hash_buffer(GCRY_MD_SM3, digest, record, bits / 8);
 }
 
-static void by_produce(size_t bytes)
+static void by_produce(uint64_t bits)
 {
-    sm3rows_produce(record, bytes, (uint8_t *)assignment, sizeof assignment);
+    go_on(sm3rows_produce(bits, record, SM3ROWS_RECORD_BYTES(bits), (uint8_t *)assignment, sizeof assignment));
 }
 
-static void by_pack(size_t bytes)
+static void by_pack(uint64_t bits)
 {
-    sm3rows_pack(bytes, (uint8_t *)assignment, SM3ROWS_ASSIGNMENT_BYTES(bytes), packed, sizeof packed);
+    go_on(sm3rows_pack(bits, (uint8_t *)assignment, SM3ROWS_ASSIGNMENT_BYTES(bits), packed, sizeof packed));
 }
 
-static void by_c_pack(size_t bytes)
+static void by_c_pack(uint64_t bits)
 {
-    baseline_pack(SM3ROWS_WIRES(bytes), (uint8_t *)assignment, packed);
+    baseline_pack(SM3ROWS_WIRES(bits), (uint8_t *)assignment, packed);
 }
 
-static void by_unpack(size_t bytes)
+static void by_unpack(uint64_t bits)
 {
-    sm3rows_unpack(bytes, packed, SM3ROWS_PACKED_BYTES(bytes), (uint8_t *)assignment, sizeof assignment);
+    go_on(sm3rows_unpack(bits, packed, SM3ROWS_PACKED_BYTES(bits), (uint8_t *)assignment, sizeof assignment));
 }
 
-static void by_c_unpack(size_t bytes)
+static void by_c_unpack(uint64_t bits)
 {
-    baseline_unpack(SM3ROWS_WIRES(bytes), packed, SM3ROWS_PACKED_BYTES(bytes), assignment);
+    baseline_unpack(SM3ROWS_WIRES(bits), packed, SM3ROWS_PACKED_BYTES(bits), assignment);
 }
 
 static const struct {
     const char *name;
-    void (*call)(size_t bytes);
+    void (*call)(uint64_t bits);
 } sides[] = {{"digest", by_digest},   {"openssl", by_openssl},   {"libgcrypt", by_libgcrypt},
              {"produce", by_produce}, {"pack", by_pack},         {"c-pack", by_c_pack},
              {"unpack", by_unpack},   {"c-unpack", by_c_unpack}};
@@ -69,20 +72,21 @@ int main(int count, char **arguments)
 {
     if (count < 4 || (count > 4 && gcry_control(GCRYCTL_DISABLE_HWF, arguments[4], NULL) != 0))
         return EXIT_FAILURE;
-    size_t bytes = (size_t)atoi(arguments[2]);
+    uint64_t bits = strtoull(arguments[2], NULL, 10);
     int calls = atoi(arguments[3]);
+    if (bits > SM3ROWS_MOST_BITS)
+        return EXIT_FAILURE;
     gcry_check_version(NULL);
     gcry_control(GCRYCTL_INITIALIZATION_FINISHED, 0);
     kind = EVP_MD_fetch(NULL, "SM3", NULL);
     context = EVP_MD_CTX_new();
-    for (size_t k = 0; k < sizeof record; k++)
-        record[k] = (uint8_t)(k * k);
-    by_produce(bytes); /* for packing to read, and its bytes for unpacking */
-    by_pack(bytes);
+    set_record(record, bits);
+    by_produce(bits); /* for packing to read, and its bytes for unpacking */
+    by_pack(bits);
     for (size_t side = 0; side < sizeof sides / sizeof *sides; side++)
         if (strcmp(sides[side].name, arguments[1]) == 0)
             for (int call = 0; call < calls; call++)
-                sides[side].call(bytes);
+                sides[side].call(bits);
     EVP_MD_CTX_free(context);
     EVP_MD_free(kind);
     return EXIT_SUCCESS;

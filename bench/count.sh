@@ -1,6 +1,7 @@
 #!/bin/sh
-# Counts by cachegrind, which no busy machine disturbs: the instructions of a digest on each side, those of the producer's
-# blocks with the lines that are missed by caches as large as this machine's first two, and those of packing.
+# Counts by cachegrind, which no busy machine disturbs: the instructions of a digest on each side, those of records that end
+# inside a byte beside those of whole bytes, those of the producer's blocks with the lines that are missed by caches as
+# large as this machine's first two, and those of packing.
 # SM3ROWS_LIB names the archive; without it, it is the one that `rt staticlib sm3rows` writes.
 set -eu
 
@@ -18,45 +19,59 @@ gcc -std=c11 -O2 -Wall -Wextra -I "$root/include" "$root/bench/count.c" "$root/b
 first=$(getconf LEVEL1_DCACHE_SIZE),$(getconf LEVEL1_DCACHE_ASSOC),64
 second=$(getconf LEVEL2_CACHE_SIZE),$(getconf LEVEL2_CACHE_ASSOC),64
 
-# whole SIDE BYTES CALLS [FEATURE]: instructions, misses of the first cache and of the second, of the whole program.
+# whole SIDE BITS CALLS [FEATURE]: instructions, misses of the first cache and of the second, of the whole program.
 whole() {
     valgrind --tool=cachegrind --cachegrind-out-file=/dev/null --D1="$first" --LL="$second" "$program" "$@" 2>&1 |
         tr -d , | awk '/I +refs:/ { i = $4 } /D1 +misses:/ { d = $4 } /LLd misses:/ { l = $4 } END { print i, d, l }'
 }
 
-# call SIDE BYTES [FEATURE]: the same of one call. What six calls have more than two is four calls'.
+# call SIDE BITS [FEATURE]: the same of one call. What six calls have more than two is four calls'.
 call() {
-    side=$1 bytes=$2
+    side=$1 bits=$2
     shift 2
-    { whole "$side" "$bytes" 2 "$@"; whole "$side" "$bytes" 6 "$@"; } |
+    { whole "$side" "$bits" 2 "$@"; whole "$side" "$bits" 6 "$@"; } |
         awk 'NR == 1 { i = $1; d = $2; l = $3 } NR == 2 { print ($1 - i) / 4, ($2 - d) / 4, ($3 - l) / 4 }'
 }
 
-# digest SIDE [FEATURE]: a line for a side's digest; 1,015 bytes have fifteen blocks more than none.
+# digest SIDE [FEATURE]: a line for a side's digest; 8,120 bits have fifteen blocks more than none.
 digest() {
     name=$1
     shift
-    { call "$name" 0 "$@"; call "$name" 1015 "$@"; } | awk -v name="$name${1:+ without $1}" '
+    { call "$name" 0 "$@"; call "$name" 8120 "$@"; } | awk -v name="$name${1:+ without $1}" '
         NR == 1 { none = $1 }
         NR == 2 { printf "%-30s %6.0f %6.0f %6.0f\n", name, none, $1, ($1 - none) / 15 }'
 }
 
-echo "instructions of a digest             0   1015  a block more"
+# beside SIDE BITS WHOLE: a line for a side's record that ends inside a byte, beside one of whole bytes with as many blocks.
+beside() {
+    { call "$1" "$2"; call "$1" "$3"; } | awk -v side="$1" -v bits="$2" -v whole="$3" '
+        NR == 1 { inside = $1 }
+        NR == 2 { printf "%-8s %6d %5d %12.0f %12.0f %7.4f\n", side, bits, whole, inside, $1, inside / $1 }'
+}
+
+echo "instructions of a digest, bits       0   8120  a block more"
 digest digest
 digest openssl
 digest libgcrypt
 for feature in intel-avx intel-avx2 intel-bmi2; do
     digest libgcrypt "$feature"
 done
+echo "a record that ends inside a byte beside whole bytes: bits of both, instructions of both, ratio"
+for pair in "501 504" "8117 8120" "8127 8120"; do
+    beside digest "${pair% *}" "${pair#* }"
+done
+for pair in "437 440" "8117 8120" "8127 8120"; do
+    beside produce "${pair% *}" "${pair#* }"
+done
 echo "produce, a block of it; caches of $first and $second (bytes, ways, line)"
 echo "blocks  instructions  missed by the first  by the second"
 for blocks in 1 2 4 8 16; do
-    call produce "$((64 * blocks - 9))" |
+    call produce "$((512 * blocks - 72))" |
         awk -v n="$blocks" '{ printf "%6d %13.0f %20.0f %14.0f\n", n, $1 / n, $2 / n, $3 / n }'
 done
 echo "instructions of a wire, 1 block 16 blocks"
 for side in pack c-pack unpack c-unpack; do
-    { call "$side" 55; call "$side" 1015; } | awk -v side="$side" '
+    { call "$side" 440; call "$side" 8120; } | awk -v side="$side" '
         { wire[NR] = $1 / (513 + 22528 * (NR == 1 ? 1 : 16)) }
         END { printf "%-22s %7.2f %9.2f\n", side, wire[1], wire[2] }'
 done

@@ -9,6 +9,7 @@
 #include <sys/resource.h>
 #include <time.h>
 
+#include "record.h"
 #include "sm3rows.h"
 
 enum { RUNS = 25, CALLS = 960, TOUCHES = 100000, STEPS = 9, PAGE = 4096, HUGE_PAGE = 2 << 20 };
@@ -22,14 +23,13 @@ static const struct {
     int advice;
 } kinds[2] = {{"usual pages", MADV_NOHUGEPAGE}, {"huge pages", MADV_HUGEPAGE}};
 
-static uint8_t record[1015], *memory[2];
+static uint8_t record[RECORD_MOST], *memory[2];
 
-/* One call for a record of so many blocks, the longest of them. */
+/* One call for a record of so many blocks, the longest of them that is whole bytes. */
 static void produce(uint64_t blocks, uint8_t *out)
 {
-    uint64_t length = 64 * blocks - 9;
-    if (sm3rows_produce(record, length, out, SM3ROWS_ASSIGNMENT_BYTES(length)) != 0)
-        exit(EXIT_FAILURE);
+    uint64_t bits = 512 * blocks - 72;
+    go_on(sm3rows_produce(bits, record, SM3ROWS_RECORD_BYTES(bits), out, SM3ROWS_ASSIGNMENT_BYTES(bits)));
 }
 
 /* Processor time of this thread in nanoseconds. */
@@ -111,8 +111,7 @@ static void print_faults(uint64_t blocks)
 
 int main(void)
 {
-    for (size_t k = 0; k < sizeof record; k++)
-        record[k] = (uint8_t)(k * k);
+    set_record(record, SM3ROWS_MOST_BITS);
     for (size_t k = 0; k < 2; k++)
         memory[k] = take(kinds[k].advice);
     printf("In memory for so many assignments of one block:");

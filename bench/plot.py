@@ -55,12 +55,12 @@ class Panel:
 def bars(number, rows):
     """Digest times: a group of bars for each record length."""
     sides = list(dict.fromkeys(row["side"] for row in rows))
-    lengths = list(dict.fromkeys(row["bytes"] for row in rows))
-    panel = Panel(number, "digest, by bytes of the record", max(row["us"] for row in rows))
+    lengths = list(dict.fromkeys(row["bits"] for row in rows))
+    panel = Panel(number, "digest, by bits of the record", max(row["us"] for row in rows))
     panel.key(sides)
     group, bar = WIDTH / len(lengths), WIDTH / len(lengths) / (len(sides) + 1)
     for row in rows:
-        x = panel.left + group * lengths.index(row["bytes"]) + bar * (0.5 + sides.index(row["side"]))
+        x = panel.left + group * lengths.index(row["bits"]) + bar * (0.5 + sides.index(row["side"]))
         y = panel.y(row["us"])
         panel.parts.append(f'<path d="M{x:.1f} {panel.bottom}V{y:.1f}h{bar:.1f}V{panel.bottom}z" '
                            f'fill="{COLOURS[row["side"]]}"/>')

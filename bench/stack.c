@@ -10,49 +10,52 @@
 #include <string.h>
 #include <sys/mman.h>
 
+#include "record.h"
 #include "sm3rows.h"
 
-enum { STACK = 8 << 20, PAINT = 0x5a, LONGEST = SM3ROWS_LONGEST };
+enum { STACK = 8 << 20, PAINT = 0x5a, MOST = SM3ROWS_MOST_BITS };
 
-static uint8_t record[LONGEST], out[SM3ROWS_ASSIGNMENT_BYTES(LONGEST)], packed[SM3ROWS_PACKED_BYTES(LONGEST)];
-static uint8_t digest[32], *stack;
+static uint8_t record[RECORD_MOST], out[SM3ROWS_ASSIGNMENT_BYTES(MOST)], packed[SM3ROWS_PACKED_BYTES(MOST)];
+static uint8_t digest[SM3ROWS_DIGEST_BYTES], *stack;
 
-/* One call of each function for a record of that length. */
-static void call_digest(uint64_t length)
+/* One call of each function for a record of so many bits; what it answered. */
+static uint64_t call_digest(uint64_t bits)
 {
-    sm3rows_digest(record, length, digest, sizeof digest);
+    return sm3rows_digest(bits, record, SM3ROWS_RECORD_BYTES(bits), digest, sizeof digest);
 }
 
-static void call_row(uint64_t length)
+static uint64_t call_row(uint64_t bits)
 {
     /* Rows of all forms: a step that meets every place of a block. */
-    for (uint64_t row = 0; row < SM3ROWS_ROWS(length); row += 31)
-        sm3rows_row(length, row, out, sizeof out);
+    uint64_t refusals = 0;
+    for (uint64_t row = 0; row < SM3ROWS_ROWS(bits); row += 31)
+        refusals |= SM3ROWS_REFUSAL(sm3rows_row(bits, row, out, sizeof out));
+    return refusals;
 }
 
-static void call_produce(uint64_t length)
+static uint64_t call_produce(uint64_t bits)
 {
-    sm3rows_produce(record, length, out, sizeof out);
+    return sm3rows_produce(bits, record, SM3ROWS_RECORD_BYTES(bits), out, sizeof out);
 }
 
-static void call_check(uint64_t length)
+static uint64_t call_check(uint64_t bits)
 {
-    sm3rows_check(length, digest, sizeof digest, out, SM3ROWS_ASSIGNMENT_BYTES(length));
+    return sm3rows_check(bits, digest, sizeof digest, out, SM3ROWS_ASSIGNMENT_BYTES(bits));
 }
 
-static void call_pack(uint64_t length)
+static uint64_t call_pack(uint64_t bits)
 {
-    sm3rows_pack(length, out, SM3ROWS_ASSIGNMENT_BYTES(length), packed, sizeof packed);
+    return sm3rows_pack(bits, out, SM3ROWS_ASSIGNMENT_BYTES(bits), packed, sizeof packed);
 }
 
-static void call_unpack(uint64_t length)
+static uint64_t call_unpack(uint64_t bits)
 {
-    sm3rows_unpack(length, packed, SM3ROWS_PACKED_BYTES(length), out, sizeof out);
+    return sm3rows_unpack(bits, packed, SM3ROWS_PACKED_BYTES(bits), out, sizeof out);
 }
 
 struct job {
-    void (*call)(uint64_t length);
-    uint64_t length;
+    uint64_t (*call)(uint64_t bits);
+    uint64_t bits, answer;
     size_t used;
 };
 
@@ -63,7 +66,7 @@ static void *measure(void *argument)
     /* Room for this function's own frame and for memset's. */
     size_t painted = (size_t)(here - stack) - 256;
     memset(stack, PAINT, painted);
-    job->call(job->length);
+    job->answer = job->call(job->bits);
     size_t low = 0;
     while (low < painted && stack[low] == PAINT)
         low++;
@@ -71,45 +74,48 @@ static void *measure(void *argument)
     return NULL;
 }
 
-static size_t used_by(void (*call)(uint64_t), uint64_t length)
+static size_t used_by(uint64_t (*call)(uint64_t), uint64_t bits)
 {
-    struct job job = {call, length, 0};
+    struct job job = {.call = call, .bits = bits};
     pthread_attr_t attributes;
     pthread_t thread;
     if (pthread_attr_init(&attributes) != 0 || pthread_attr_setstack(&attributes, stack, STACK) != 0 ||
         pthread_create(&thread, &attributes, measure, &job) != 0 || pthread_join(thread, NULL) != 0)
         exit(EXIT_FAILURE);
+    go_on(job.answer);
     return job.used;
 }
 
 /* In this order each finds what it reads. */
 static const struct {
     const char *name;
-    void (*call)(uint64_t);
+    uint64_t (*call)(uint64_t);
 } functions[] = {{"digest", call_digest}, {"row", call_row},   {"produce", call_produce},
                  {"check", call_check},   {"pack", call_pack}, {"unpack", call_unpack}};
 enum { FUNCTIONS = sizeof functions / sizeof *functions };
 
 static void print_stack(void)
 {
-    static const uint64_t lengths[] = {0, 55, 56, 63, 500, LONGEST};
+    static const uint64_t bits[] = {0, 440, 447, 448, 501, 504, 4000, 8120, MOST};
     size_t most[FUNCTIONS] = {0};
-    for (size_t l = 0; l < sizeof lengths / sizeof *lengths; l++)
+    for (size_t b = 0; b < sizeof bits / sizeof *bits; b++) {
+        set_record(record, bits[b]);
         for (size_t f = 0; f < FUNCTIONS; f++) {
-            size_t used = used_by(functions[f].call, lengths[l]);
+            size_t used = used_by(functions[f].call, bits[b]);
             most[f] = used > most[f] ? used : most[f];
         }
+    }
     for (size_t f = 0; f < FUNCTIONS; f++)
         printf("%-8s at most %zu bytes of stack\n", functions[f].name, most[f]);
 }
 
-/* The claim that the last of the lengths left. */
+/* The claim that the last of the records left. */
 static int write_claim(const char *name)
 {
     FILE *file = fopen(name, "wb");
     if (file == NULL)
         return EXIT_FAILURE;
-    fprintf(file, "%d,", LONGEST);
+    fprintf(file, "%d,", MOST);
     for (size_t k = 0; k < sizeof digest; k++)
         fprintf(file, "%02x", digest[k]);
     fputc('\n', file);
@@ -124,8 +130,6 @@ int main(int count, char **arguments)
     stack = mmap(NULL, STACK, PROT_READ | PROT_WRITE, MAP_PRIVATE | MAP_ANONYMOUS, -1, 0);
     if (stack == MAP_FAILED)
         return EXIT_FAILURE;
-    for (size_t k = 0; k < sizeof record; k++)
-        record[k] = (uint8_t)(k * k);
     print_stack();
     return write_claim(arguments[1]);
 }

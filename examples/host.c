@@ -1,6 +1,8 @@
 /* Seals a record and checks it, as a C host does: the digest, the assignment, the check, the assignment packed for a disk
- * and unpacked again, and what packing and the check say once an entry of the assignment was changed. Usage: host [TEXT];
- * the record is the text. Builds by examples/run.sh. */
+ * and unpacked again, and what packing and the check say once an entry of the assignment was changed. Usage:
+ * host [TEXT [BITS]]; the record is the text, or its first so many bits. Without a text there are two records, one of
+ * whole bytes and a tag that ends inside a byte, and what is said of bytes that do not fit the tag's bits. Builds by
+ * examples/run.sh. */
 
 #include <inttypes.h>
 #include <stdio.h>
@@ -9,9 +11,13 @@
 
 #include "sm3rows.h"
 
-/* What goes from hand to hand once a record of that length is sealed. */
+/* What a tag reader delivers: 37 bits, the first the highest of its byte. The low 3 bits of the last byte are spare. */
+enum { TAG_BITS = 37, TAG_BYTES = SM3ROWS_RECORD_BYTES(TAG_BITS) };
+static const uint8_t tag[TAG_BYTES] = {0x8b, 0x21, 0x5f, 0x04, 0xd8};
+
+/* What goes from hand to hand once a record of so many bits is sealed. */
 struct claim {
-    uint64_t length;
+    uint64_t bits;
     uint8_t digest[SM3ROWS_DIGEST_BYTES];
     uint8_t *assignment;
     size_t assignment_size;
@@ -29,22 +35,23 @@ static void go_on(const char *what, uint64_t answer)
 static uint8_t *room(size_t bytes)
 {
     uint8_t *new = malloc(bytes);
-    if (new == NULL)
+    if (new == NULL && bytes > 0)
         exit(EXIT_FAILURE);
     return new;
 }
 
 /* The digest goes to the partner road, the assignment to the proof back end. */
-static struct claim seal(const uint8_t *record, size_t length)
+static struct claim seal(uint64_t bits, const uint8_t *record)
 {
-    struct claim claim = {.length = length};
-    go_on("digest", sm3rows_digest(record, length, claim.digest, sizeof claim.digest));
-    claim.assignment_size = SM3ROWS_ASSIGNMENT_BYTES(length);
+    struct claim claim = {.bits = bits};
+    size_t bytes = SM3ROWS_RECORD_BYTES(bits);
+    go_on("digest", sm3rows_digest(bits, record, bytes, claim.digest, sizeof claim.digest));
+    claim.assignment_size = SM3ROWS_ASSIGNMENT_BYTES(bits);
     claim.assignment = room(claim.assignment_size);
-    go_on("produce", sm3rows_produce(record, length, claim.assignment, claim.assignment_size));
+    go_on("produce", sm3rows_produce(bits, record, bytes, claim.assignment, claim.assignment_size));
 
-    printf("record   %zu bytes, %" PRIu64 " wires, %" PRIu64 " rows\n", length, SM3ROWS_WIRES(length),
-           SM3ROWS_ROWS(length));
+    printf("record   %" PRIu64 " bits in %zu bytes, %" PRIu64 " wires, %" PRIu64 " rows\n", bits, bytes,
+           SM3ROWS_WIRES(bits), SM3ROWS_ROWS(bits));
     printf("digest   ");
     for (size_t k = 0; k < sizeof claim.digest; k++)
         printf("%02x", claim.digest[k]);
@@ -54,7 +61,7 @@ static struct claim seal(const uint8_t *record, size_t length)
 
 static uint64_t check(const struct claim *claim)
 {
-    return sm3rows_check(claim->length, claim->digest, sizeof claim->digest, claim->assignment, claim->assignment_size);
+    return sm3rows_check(claim->bits, claim->digest, sizeof claim->digest, claim->assignment, claim->assignment_size);
 }
 
 /* An answer of 0 says that the assignment belongs to the digest. */
@@ -68,22 +75,22 @@ static int accepted(const char *what, const struct claim *claim)
 /* To a disk and back: from one bit a wire the assignment is written anew. */
 static void store(const struct claim *claim)
 {
-    size_t size = SM3ROWS_PACKED_BYTES(claim->length);
+    size_t size = SM3ROWS_PACKED_BYTES(claim->bits);
     uint8_t *packed = room(size);
-    go_on("pack", sm3rows_pack(claim->length, claim->assignment, claim->assignment_size, packed, size));
+    go_on("pack", sm3rows_pack(claim->bits, claim->assignment, claim->assignment_size, packed, size));
     printf("packed   %zu bytes instead of %zu\n", size, claim->assignment_size);
     memset(claim->assignment, 0, claim->assignment_size);
-    go_on("unpack", sm3rows_unpack(claim->length, packed, size, claim->assignment, claim->assignment_size));
+    go_on("unpack", sm3rows_unpack(claim->bits, packed, size, claim->assignment, claim->assignment_size));
     free(packed);
 }
 
 /* Wire 513 is the message's first bit. As 2 it is no bit, and packing says which wire it was. */
 static int name_no_bit(const struct claim *claim)
 {
-    size_t size = SM3ROWS_PACKED_BYTES(claim->length);
+    size_t size = SM3ROWS_PACKED_BYTES(claim->bits);
     uint8_t *packed = room(size), *entry = claim->assignment + 8 * 513, kept = *entry;
     *entry = 2;
-    uint64_t answer = sm3rows_pack(claim->length, claim->assignment, claim->assignment_size, packed, size);
+    uint64_t answer = sm3rows_pack(claim->bits, claim->assignment, claim->assignment_size, packed, size);
     *entry = kept;
     free(packed);
     printf("no bit   refusal %u, wire %" PRIu64 "\n", SM3ROWS_REFUSAL(answer), SM3ROWS_FAILING_WIRE(answer));
@@ -97,21 +104,62 @@ static int name_row(const struct claim *claim)
     claim->assignment[8 * 513] ^= 1;
     uint64_t failed = check(claim);
     printf("damaged  refusal %u, row %" PRIu64 "\n", SM3ROWS_REFUSAL(failed), SM3ROWS_FAILING_ROW(failed));
-    uint64_t answer = sm3rows_row(claim->length, SM3ROWS_FAILING_ROW(failed), row, sizeof row);
+    uint64_t answer = sm3rows_row(claim->bits, SM3ROWS_FAILING_ROW(failed), row, sizeof row);
     printf("the row  %u terms in A, %u in B, %u in C\n", SM3ROWS_COUNT_A(answer), SM3ROWS_COUNT_B(answer),
            SM3ROWS_COUNT_C(answer));
     return SM3ROWS_REFUSAL(failed) == 9 && SM3ROWS_REFUSAL(answer) == 0;
 }
 
-int main(int argc, char **argv)
+/* One record through all of it; 1 where each answer is as it should be. */
+static int go_through(uint64_t bits, const uint8_t *record)
 {
-    const char *text = argc > 1 ? argv[1] : "lane 4, 07:31, class 2, seal 118";
-    struct claim claim = seal((const uint8_t *)text, strlen(text));
+    struct claim claim = seal(bits, record);
     int right = accepted("check", &claim);
     store(&claim);
     right &= accepted("unpacked", &claim);
     right &= name_no_bit(&claim);
     right &= name_row(&claim);
     free(claim.assignment);
+    return right;
+}
+
+/* The tag once without its last byte and once with a spare bit set: bytes that the bits do not allow. */
+static int name_wrong_bytes(void)
+{
+    uint8_t digest[SM3ROWS_DIGEST_BYTES], spare[TAG_BYTES];
+    memcpy(spare, tag, sizeof spare);
+    spare[TAG_BYTES - 1] |= 1;
+    uint64_t few = sm3rows_digest(TAG_BITS, tag, TAG_BYTES - 1, digest, sizeof digest);
+    uint64_t set = sm3rows_digest(TAG_BITS, spare, TAG_BYTES, digest, sizeof digest);
+    printf("the tag  in %d bytes refusal %u, with a spare bit set refusal %u\n", TAG_BYTES - 1, SM3ROWS_REFUSAL(few),
+           SM3ROWS_REFUSAL(set));
+    return SM3ROWS_REFUSAL(few) == 13 && SM3ROWS_REFUSAL(set) == 14;
+}
+
+/* The first so many bits of a text, which has them: what stands behind them in the last byte is cleared. The record is in
+ * memory of its size, so that Valgrind sees where a byte more is read. */
+static int go_through_part(uint64_t bits, const char *text)
+{
+    size_t bytes = SM3ROWS_RECORD_BYTES(bits);
+    uint8_t *record = room(bytes);
+    for (size_t k = 0; k < bytes; k++)
+        record[k] = (uint8_t)text[k];
+    if (bits % 8 != 0)
+        record[bytes - 1] &= (uint8_t)(0xff << (8 - bits % 8));
+    int right = go_through(bits, record);
+    free(record);
+    return right;
+}
+
+int main(int argc, char **argv)
+{
+    static const char passage[] = "lane 4, 07:31, class 2, seal 118";
+    if (argc > 1) {
+        uint64_t all = 8 * (uint64_t)strlen(argv[1]), bits = argc > 2 ? strtoull(argv[2], NULL, 10) : all;
+        return bits <= all && go_through_part(bits, argv[1]) ? EXIT_SUCCESS : EXIT_FAILURE;
+    }
+    int right = go_through(8 * strlen(passage), (const uint8_t *)passage); /* a byte is 8 bits */
+    right &= go_through(TAG_BITS, tag);
+    right &= name_wrong_bytes();
     return right ? EXIT_SUCCESS : EXIT_FAILURE;
 }

@@ -5,121 +5,113 @@
  * after one, so that a byte read or written outside stops the run; and every answer is held against what the paper says
  * of it. */
 
-#define _GNU_SOURCE
 #include <stdint.h>
 #include <string.h>
-#include <sys/mman.h>
 
+#include "lent.h"
 #include "must.h"
 #include "sm3rows.h"
 
 static const uint64_t P = ((uint64_t)1 << 61) - 1;
 
-/* ---- The input, byte by byte; past its end come zeros. ---- */
+enum { MOST_BITS = 8127, MOST_BYTES = 1100 }; /* the most bits of a record; more bytes than they take */
 
-struct input {
-    const uint8_t *at;
-    size_t left;
-};
+static uint8_t *records, *outs, *digests, *assignments, *rights, *claims; /* a room for each */
 
-static uint64_t take(struct input *in, int bytes)
+static unsigned long seen[15]; /* calls by refusal, 0 for none */
+
+/* ---- Records: bits, bytes, and what stands after the last bit ---- */
+
+/* A number of bits: mostly few, since many take long; beside a number where the blocks, the bytes or the refusals change;
+ * any that may be in range; or one that is in range only for who drops its upper bits, or what passes 2^64 on the way. */
+static uint64_t take_bits(struct input *in)
 {
-    uint64_t value = 0;
-    for (int k = 0; k < bytes; k++) {
-        value = value << 8 | (in->left > 0 ? *in->at : 0);
-        if (in->left > 0) {
-            in->at++;
-            in->left--;
-        }
-    }
-    return value;
-}
-
-/* A number near one that matters, or any number of 8 bytes. */
-static uint64_t take_near(struct input *in, uint64_t centre)
-{
+    static const uint64_t borders[] = {0, 448, 512, 960, 8064, 8120, 8128};
+    static const uint64_t wide[] = {1 << 13, 1 << 16, (uint64_t)1 << 32, (uint64_t)1 << 35,
+                                    (uint64_t)1 << 61, (uint64_t)1 << 63, /* 2^64: */ 0};
     uint64_t how = take(in, 1);
-    if (how == 0)
-        return take(in, 8);
-    if (how < 64)
-        return take(in, 3);
-    return centre + how - 160;
+    if (how < 112)
+        return take(in, 2) % 448;
+    if (how < 208)
+        return borders[how % 7] + take(in, 1) % 16 - 8;
+    if (how < 232)
+        return take(in, 2) % 8200;
+    return how < 248 ? wide[how % 7] + take(in, 2) % 8400 - 200 : take(in, 8);
 }
 
-/* ---- Slices between pages that cannot be touched. ---- */
-
-enum { PAGE = 4096, ROOM = 3 << 20 };
-
-static uint8_t *room(void)
+/* As many bytes as the bits take, or another number; for bits out of range also what they take where much is dropped. */
+static size_t take_record_len(struct input *in, uint64_t bits)
 {
-    uint8_t *all = mmap(NULL, ROOM + 2 * PAGE, PROT_NONE, MAP_PRIVATE | MAP_ANONYMOUS, -1, 0);
-    if (all == MAP_FAILED || mprotect(all + PAGE, ROOM, PROT_READ | PROT_WRITE) != 0)
-        abort();
-    return all + PAGE;
+    uint64_t how = take(in, 1), right = (bits + 7) % 65536 / 8;
+    if (how < 192)
+        return right % MOST_BYTES;
+    return (how < 224 ? right + how % 8 - 4 : take(in, 2)) % MOST_BYTES;
 }
 
-/* A slice at the end or at the beginning of a room; an empty one may be null. */
-static uint8_t *slice(uint8_t *room, size_t length, uint64_t how)
-{
-    if (length == 0 && how % 4 == 0)
-        return NULL;
-    return how % 2 == 0 ? room + ROOM - length : room;
-}
-
-static uint8_t *records, *outs, *digests, *assignments, *rights, *claims;
-
-/* What a buffer holds before a call. */
-static void fill(uint8_t *bytes, size_t length)
-{
-    if (length > 0)
-        memset(bytes, 0xa5, length);
-}
-
-static int filled(const uint8_t *bytes, size_t length)
-{
-    for (size_t k = 0; k < length; k++)
-        if (bytes[k] != 0xa5)
-            return 0;
-    return 1;
-}
-
-static uint64_t entry(const uint8_t *assignment, size_t wire)
-{
-    uint64_t value;
-    memcpy(&value, assignment + 8 * wire, 8);
-    return value;
-}
-
-/* A bit of a digest or of packed bytes, the highest of a byte first. */
-static uint64_t bit(const uint8_t *bytes, size_t number)
-{
-    return bytes[number / 8] >> (7 - number % 8) & 1;
-}
-
-/* ---- Digest, row and produce ---- */
-
-static const uint8_t *take_record(struct input *in, size_t length)
+/* The bytes of a record of so many bits, the spare ones of its last byte cleared. */
+static uint8_t *take_cleared(struct input *in, uint64_t bits, size_t length)
 {
     uint8_t *record = slice(records, length, take(in, 1));
     for (size_t k = 0; k < length; k++)
         record[k] = (uint8_t)take(in, 1);
+    if (length > 0)
+        record[length - 1] &= (uint8_t)(0xff << (8 * length - bits) % 8);
     return record;
 }
 
+/* The same, or with any one bit of the last byte set, or with a last byte as it comes. */
+static const uint8_t *take_record(struct input *in, uint64_t bits, size_t length)
+{
+    uint64_t how = take(in, 1), last = how < 224 ? (uint64_t)1 << how % 8 : take(in, 1);
+    uint8_t *record = take_cleared(in, bits, length);
+    if (length > 0 && how >= 192)
+        record[length - 1] |= (uint8_t)last;
+    return record;
+}
+
+/* The paper's refusals of a record: 2, 13, 14. */
+static unsigned record_refusal(uint64_t bits, const uint8_t *record, size_t length)
+{
+    if (bits > MOST_BITS)
+        return 2;
+    if (length != bits / 8 + (bits % 8 > 0))
+        return 13;
+    for (size_t number = bits; number < 8 * length; number++)
+        if (bit(record, number) != 0)
+            return 14;
+    return 0;
+}
+
+/* A bit of a record's message: the record, one bit 1, zeros, then the bits in 64 bits. */
+static uint64_t message_bit(uint64_t bits, const uint8_t *record, uint64_t number)
+{
+    uint64_t end = 512 * ((bits + 64) / 512 + 1);
+    if (number < bits)
+        return bit(record, number);
+    return number == bits ? 1 : number < end - 64 ? 0 : bits >> (end - 1 - number) & 1;
+}
+
+/* ---- Digest, row and produce ---- */
+
 static void digest(struct input *in)
 {
-    size_t length = take(in, 2) % 1100, out_len = take(in, 1) % 72;
-    uint8_t *out = slice(outs, out_len, take(in, 1));
-    const uint8_t *record = take_record(in, length);
+    uint64_t bits = take_bits(in);
+    size_t length = take_record_len(in, bits), out_len = take(in, 1) % 72;
+    uint8_t *out = slice(outs, out_len, take(in, 1)), again[32];
+    const uint8_t *record = take_record(in, bits, length);
+    unsigned refusal = record_refusal(bits, record, length);
+    if (refusal == 0 && out_len < 32)
+        refusal = 4;
     fill(out, out_len);
-    uint64_t answer = sm3rows_digest(record, length, out, out_len);
-    MUST(answer == (length > 1015 ? 2 : out_len < 32 ? 4 : 0));
-    MUST(filled(out + (answer == 0 ? 32 : 0), out_len - (answer == 0 ? 32 : 0)));
-    if (answer == 0) {
-        uint8_t again[32];
-        MUST(sm3rows_digest(record, length, again, sizeof again) == 0);
-        MUST(memcmp(out, again, 32) == 0);
-    }
+    seen[refusal]++;
+    MUST(sm3rows_digest(bits, record, length, out, out_len) == refusal);
+    MUST(filled(out + (refusal == 0 ? 32 : 0), out_len - (refusal == 0 ? 32 : 0)));
+    if (refusal != 0)
+        return;
+    MUST(sm3rows_digest(bits, record, length, again, sizeof again) == 0 && memcmp(out, again, 32) == 0);
+    /* The same bytes are another record where all of their bits count. */
+    if (bits % 8 > 0 && 8 * length <= MOST_BITS)
+        MUST(sm3rows_digest(8 * length, record, length, again, sizeof again) == 0 && memcmp(out, again, 32) != 0);
 }
 
 /* The terms of one sum: rising wires, coefficients from 1 to p - 1. */
@@ -137,84 +129,105 @@ static const uint8_t *terms(const uint8_t *at, unsigned count, uint64_t wires)
     return at;
 }
 
+/* A row: that of a message bit near the last record bit, one near the row count, or any. */
+static uint64_t take_row(struct input *in, uint64_t bits, uint64_t rows)
+{
+    uint64_t how = take(in, 1), number = bits + how % 8 - 4;
+    return how < 64 ? 256 + 32320 * (number / 512) + number % 512 : take_near(in, rows);
+}
+
+/* Whether B of a row for a block bit has the terms of its form: a bit row for a record wire, else a fixed row. */
+static int block_bit_form(uint64_t bits, uint64_t number, unsigned terms_of_b)
+{
+    uint64_t block = (number - 256) / 32320, place = (number - 256) % 32320;
+    if (number < 256 || block >= SM3ROWS_BLOCKS(bits) || place >= 512)
+        return 1;
+    return terms_of_b == (512 * block + place < bits ? 2 : 1);
+}
+
 static void row(struct input *in)
 {
-    uint64_t length = take_near(in, 1015);
-    uint64_t rows = length <= 1015 ? SM3ROWS_ROWS(length) : 0;
-    uint64_t number = take_near(in, rows);
+    uint64_t bits = take_bits(in);
+    uint64_t rows = bits <= MOST_BITS ? SM3ROWS_ROWS(bits) : 0;
+    uint64_t number = take_row(in, bits, rows);
     size_t out_len = take(in, 1) < 128 ? 1956 : take(in, 2) % 4000;
     uint8_t *out = slice(outs, out_len, take(in, 1));
     fill(out, out_len);
-    uint64_t answer = sm3rows_row(length, number, out, out_len);
-    unsigned refusal = length > 1015 ? 2 : number >= rows ? 3 : out_len < 1956 ? 4 : 0;
+    uint64_t answer = sm3rows_row(bits, number, out, out_len);
+    unsigned refusal = bits > MOST_BITS ? 2 : number >= rows ? 3 : out_len < 1956 ? 4 : 0;
+    seen[refusal]++;
     MUST(SM3ROWS_REFUSAL(answer) == refusal);
     if (refusal != 0) {
         MUST(answer == refusal && filled(out, out_len));
         return;
     }
     unsigned a = SM3ROWS_COUNT_A(answer), b = SM3ROWS_COUNT_B(answer), c = SM3ROWS_COUNT_C(answer);
-    MUST(answer >> 32 == 0 && a > 0 && b > 0 && a + b + c <= 163);
-    const uint8_t *at = terms(out, a, SM3ROWS_WIRES(length));
-    at = terms(at, b, SM3ROWS_WIRES(length));
-    at = terms(at, c, SM3ROWS_WIRES(length));
+    MUST(answer >> 32 == 0 && a > 0 && b > 0 && a + b + c <= 163 && block_bit_form(bits, number, b));
+    const uint8_t *at = terms(out, a, SM3ROWS_WIRES(bits));
+    at = terms(at, b, SM3ROWS_WIRES(bits));
+    at = terms(at, c, SM3ROWS_WIRES(bits));
     MUST(filled(at, out_len - (size_t)(at - out)));
 }
 
-/* How many bytes an assignment and its packed bytes must have; 0 for a length out of range. */
-static size_t assignment_bytes(uint64_t length)
+/* How many bytes an assignment and its packed bytes must have; 0 for bits out of range. */
+static size_t assignment_bytes(uint64_t bits)
 {
-    return length <= 1015 ? SM3ROWS_ASSIGNMENT_BYTES(length) : 0;
+    return bits <= MOST_BITS ? SM3ROWS_ASSIGNMENT_BYTES(bits) : 0;
 }
 
-static size_t packed_bytes(uint64_t length)
+static size_t packed_bytes(uint64_t bits)
 {
-    return (assignment_bytes(length) / 8 + 7) / 8;
+    return (assignment_bytes(bits) / 8 + 7) / 8;
 }
 
-/* A length that is mostly short, since long ones take long. */
-static size_t take_length(struct input *in)
+/* What the paper says of some wires of a record's assignment: all are 0 or 1, the block bits are the message's, and
+ * wires 1 to 256 are the digest, against which the check accepts. */
+static void is_assignment(const uint8_t *out, uint64_t bits, const uint8_t *record, size_t length)
 {
-    uint64_t how = take(in, 1);
-    return how < 200 ? how : how < 250 ? 1010 + how % 10 : take(in, 2) % 1100;
+    uint8_t sealed[32];
+    MUST(entry(out, 0) == 1);
+    for (size_t wire = 0; wire < SM3ROWS_WIRES(bits); wire++)
+        MUST(entry(out, wire) <= 1);
+    for (uint64_t number = 0; number < 512 * SM3ROWS_BLOCKS(bits); number++)
+        MUST(entry(out, 513 + 22528 * (number / 512) + number % 512) == message_bit(bits, record, number));
+    MUST(sm3rows_digest(bits, record, length, sealed, sizeof sealed) == 0);
+    for (size_t number = 0; number < 256; number++)
+        MUST(entry(out, 1 + number) == bit(sealed, number));
+    MUST(sm3rows_check(bits, sealed, sizeof sealed, out, assignment_bytes(bits)) == 0);
 }
 
 static void produce(struct input *in)
 {
-    size_t length = take_length(in);
-    size_t exact = assignment_bytes(length);
+    uint64_t bits = take_bits(in);
+    size_t length = take_record_len(in, bits), exact = assignment_bytes(bits);
     size_t out_len = (exact + take(in, 1) - 128) % (ROOM - PAGE);
     uint8_t *out = slice(outs, out_len, take(in, 1));
-    const uint8_t *record = take_record(in, length);
+    const uint8_t *record = take_record(in, bits, length);
+    unsigned refusal = record_refusal(bits, record, length);
+    if (refusal == 0 && out_len < exact)
+        refusal = 4;
     fill(out, out_len);
-    uint64_t answer = sm3rows_produce(record, length, out, out_len);
-    MUST(answer == (length > 1015 ? 2 : out_len < exact ? 4 : 0));
-    if (answer != 0) {
-        MUST(filled(out, out_len));
-        return;
-    }
+    seen[refusal]++;
+    MUST(sm3rows_produce(bits, record, length, out, out_len) == refusal);
+    exact = refusal == 0 ? exact : 0;
     MUST(filled(out + exact, out_len - exact));
-    MUST(entry(out, 0) == 1);
-    for (size_t wire = 0; wire < exact / 8; wire++)
-        MUST(entry(out, wire) <= 1);
-    uint8_t sealed[32];
-    MUST(sm3rows_digest(record, length, sealed, sizeof sealed) == 0);
-    for (size_t number = 0; number < 256; number++)
-        MUST(entry(out, 1 + number) == bit(sealed, number));
-    MUST(sm3rows_check(length, sealed, sizeof sealed, out, exact) == 0);
+    if (refusal == 0)
+        is_assignment(out, bits, record, length);
 }
 
 /* ---- Check, pack and unpack, on a record's own claim with some things changed ---- */
 
-/* A size that is right, or one near it. */
-static size_t take_size(struct input *in, int near, size_t exact)
+/* The bits of a record in range. */
+static uint64_t take_real(struct input *in)
 {
-    return near ? exact + take(in, 1) - 128 : exact;
+    return take_bits(in) % (MOST_BITS + 1);
 }
 
-/* A length that is the record's, or another. */
-static uint64_t take_other(struct input *in, int other, size_t real)
+/* Bits that are the record's, or others, mostly with as many blocks. */
+static uint64_t take_other(struct input *in, int other, uint64_t real)
 {
-    return other ? take_near(in, 1015) : real;
+    uint64_t how = other ? take(in, 1) : 0;
+    return !other ? real : how < 128 ? real + how % 32 - 16 : take_bits(in);
 }
 
 /* A wire below so many: one of the first 257, one of the last 8, or any. */
@@ -239,17 +252,17 @@ static uint64_t take_entry(struct input *in)
 
 /* A record's digest and, in `rights`, its assignment; in `claims` the same with up to 7 entries changed, and zeros
  * behind. A byte of the digest may be changed too. */
-static void take_claim(struct input *in, size_t length, uint8_t *sealed)
+static void take_claim(struct input *in, uint64_t bits, uint8_t *sealed)
 {
-    size_t exact = assignment_bytes(length);
+    size_t exact = assignment_bytes(bits), length = (bits + 7) / 8;
     uint64_t changes = take(in, 1), wires[8], values[8];
     for (unsigned k = 0; k < changes % 8; k++) {
         wires[k] = take_wire(in, exact / 8);
         values[k] = take_entry(in);
     }
-    const uint8_t *record = take_record(in, length);
-    MUST(sm3rows_digest(record, length, sealed, 32) == 0);
-    MUST(sm3rows_produce(record, length, rights, exact) == 0);
+    const uint8_t *record = take_cleared(in, bits, length);
+    MUST(sm3rows_digest(bits, record, length, sealed, 32) == 0);
+    MUST(sm3rows_produce(bits, record, length, rights, exact) == 0);
     memcpy(claims, rights, exact);
     memset(claims + exact, 0, 128);
     for (unsigned k = 0; k < changes % 8; k++)
@@ -260,11 +273,11 @@ static void take_claim(struct input *in, size_t length, uint8_t *sealed)
     }
 }
 
-/* What the paper says of the claim for a length, if its sizes are right. With so few changes no other record's claim
+/* What the paper says of the claim for so many bits, if its sizes are right. With so few changes no other record's claim
  * comes out. */
-static unsigned claim_refusal(uint64_t length, size_t real, const uint8_t *sealed)
+static unsigned claim_refusal(uint64_t bits, uint64_t real, const uint8_t *sealed)
 {
-    int same = length == real, same_digest = 1;
+    int same = bits == real, same_digest = 1;
     for (size_t wire = 1; wire < assignment_bytes(real) / 8; wire++)
         same &= entry(claims, wire) % P == entry(rights, wire);
     for (size_t number = 0; number < 256; number++)
@@ -274,27 +287,28 @@ static unsigned claim_refusal(uint64_t length, size_t real, const uint8_t *seale
 
 static void check(struct input *in)
 {
-    size_t real = take_length(in) % 1016;
-    uint64_t sizes = take(in, 1), length = take_other(in, sizes & 1, real);
+    uint64_t real = take_real(in);
+    uint64_t sizes = take(in, 1), bits = take_other(in, sizes & 1, real);
     size_t digest_len = sizes & 2 ? take(in, 1) : 32;
     size_t assignment_len = take_size(in, sizes & 4, assignment_bytes(real));
     uint8_t *digest = slice(digests, digest_len, sizes >> 3);
     uint8_t *assignment = slice(assignments, assignment_len, sizes >> 5);
     uint8_t sealed[256] = {0};
     take_claim(in, real, sealed);
-    unsigned refusal = claim_refusal(length, real, sealed);
-    if (length > 1015)
+    unsigned refusal = claim_refusal(bits, real, sealed);
+    if (bits > MOST_BITS)
         refusal = 2;
     else if (digest_len != 32)
         refusal = 5;
-    else if (assignment_len != assignment_bytes(length))
+    else if (assignment_len != assignment_bytes(bits))
         refusal = 6;
     if (digest_len > 0)
         memcpy(digest, sealed, digest_len);
     memcpy(assignment, claims, assignment_len);
-    uint64_t answer = sm3rows_check(length, digest, digest_len, assignment, assignment_len);
+    uint64_t answer = sm3rows_check(bits, digest, digest_len, assignment, assignment_len);
+    seen[refusal]++;
     MUST(SM3ROWS_REFUSAL(answer) == refusal);
-    MUST(refusal == 9 ? SM3ROWS_FAILING_ROW(answer) < SM3ROWS_ROWS(length) : answer == refusal);
+    MUST(refusal == 9 ? SM3ROWS_FAILING_ROW(answer) < SM3ROWS_ROWS(bits) : answer == refusal);
     MUST(memcmp(assignment, claims, assignment_len) == 0);
     MUST(digest_len == 0 || memcmp(digest, sealed, digest_len) == 0);
 }
@@ -302,30 +316,31 @@ static void check(struct input *in)
 /* Packs the claim; what was packed unpacks to each entry modulo p. */
 static void pack(struct input *in)
 {
-    size_t real = take_length(in) % 1016;
-    uint64_t sizes = take(in, 1), length = take_other(in, sizes & 1, real), answer = 0;
+    uint64_t real = take_real(in);
+    uint64_t sizes = take(in, 1), bits = take_other(in, sizes & 1, real), answer = 0;
     size_t assignment_len = take_size(in, sizes & 2, assignment_bytes(real));
-    size_t out_len = take_size(in, sizes & 4, packed_bytes(real)), exact = packed_bytes(length);
+    size_t out_len = take_size(in, sizes & 4, packed_bytes(real)), exact = packed_bytes(bits);
     uint8_t *assignment = slice(assignments, assignment_len, sizes >> 3), *out = slice(outs, out_len, sizes >> 5);
     uint8_t sealed[32];
     take_claim(in, real, sealed);
     for (uint64_t wire = SM3ROWS_WIRES(real); wire-- > 0;)
         answer = entry(claims, wire) % P > 1 ? 10 | wire << 8 : answer;
-    if (length > 1015)
+    if (bits > MOST_BITS)
         answer = 2;
     else if (out_len < exact)
         answer = 4;
-    else if (assignment_len != assignment_bytes(length))
+    else if (assignment_len != assignment_bytes(bits))
         answer = 6;
     memcpy(assignment, claims, assignment_len);
     fill(out, out_len);
-    MUST(sm3rows_pack(length, assignment, assignment_len, out, out_len) == answer);
+    seen[SM3ROWS_REFUSAL(answer)]++;
+    MUST(sm3rows_pack(bits, assignment, assignment_len, out, out_len) == answer);
     MUST(memcmp(assignment, claims, assignment_len) == 0);
     exact = answer == 0 ? exact : 0;
     MUST(filled(out + exact, out_len - exact));
     if (answer == 0) {
-        MUST(sm3rows_unpack(length, out, exact, rights, ROOM) == 0);
-        for (size_t wire = 0; wire < SM3ROWS_WIRES(length); wire++)
+        MUST(sm3rows_unpack(bits, out, exact, rights, ROOM) == 0);
+        for (size_t wire = 0; wire < SM3ROWS_WIRES(bits); wire++)
             MUST(bit(out, wire) == entry(claims, wire) % P && entry(rights, wire) == bit(out, wire));
     }
 }
@@ -333,9 +348,9 @@ static void pack(struct input *in)
 /* Unpacks bytes of a pattern, up to 7 of them changed; what was unpacked packs to the same bytes. */
 static void unpack(struct input *in)
 {
-    size_t real = take_length(in) % 1016;
-    uint64_t sizes = take(in, 1), length = take_other(in, sizes & 1, real);
-    size_t packed_len = take_size(in, sizes & 2, packed_bytes(real)), exact = assignment_bytes(length);
+    uint64_t real = take_real(in);
+    uint64_t sizes = take(in, 1), bits = take_other(in, sizes & 1, real);
+    size_t packed_len = take_size(in, sizes & 2, packed_bytes(real)), exact = assignment_bytes(bits);
     size_t out_len = take_size(in, sizes & 4, assignment_bytes(real));
     uint8_t *packed = slice(assignments, packed_len, sizes >> 3), *out = slice(outs, out_len, sizes >> 5);
     uint8_t pattern = (uint8_t)take(in, 1), last = (uint8_t)take(in, 1);
@@ -347,34 +362,47 @@ static void unpack(struct input *in)
     memcpy(packed, claims, packed_len);
     fill(out, out_len);
     unsigned refusal = (claims[packed_len - 1] & 0x7f) != 0 ? 12 : 0;
-    if (length > 1015)
+    if (bits > MOST_BITS)
         refusal = 2;
     else if (out_len < exact)
         refusal = 4;
-    else if (packed_len != packed_bytes(length))
+    else if (packed_len != packed_bytes(bits))
         refusal = 11;
-    MUST(sm3rows_unpack(length, packed, packed_len, out, out_len) == refusal);
+    seen[refusal]++;
+    MUST(sm3rows_unpack(bits, packed, packed_len, out, out_len) == refusal);
     MUST(memcmp(packed, claims, packed_len) == 0);
     exact = refusal == 0 ? exact : 0;
     MUST(filled(out + exact, out_len - exact));
     if (refusal == 0) {
         for (size_t wire = 0; wire < exact / 8; wire++)
             MUST(entry(out, wire) == bit(claims, wire));
-        MUST(sm3rows_pack(length, out, exact, rights, ROOM) == 0 && memcmp(rights, claims, packed_len) == 0);
+        MUST(sm3rows_pack(bits, out, exact, rights, ROOM) == 0 && memcmp(rights, claims, packed_len) == 0);
     }
+}
+
+static void report(void)
+{
+    fprintf(stderr, "entry: %lu calls not refused, refused by", seen[0]);
+    for (int number = 2; number < 15; number++)
+        fprintf(stderr, " %d: %lu%s", number, seen[number], number < 14 ? "," : "\n");
+}
+
+int LLVMFuzzerInitialize(int *argc, char ***argv)
+{
+    (void)argc;
+    (void)argv;
+    records = room();
+    outs = room();
+    digests = room();
+    assignments = room();
+    rights = room();
+    claims = room();
+    return atexit(report);
 }
 
 int LLVMFuzzerTestOneInput(const uint8_t *data, size_t size)
 {
     static void (*const functions[6])(struct input *) = {digest, row, produce, check, pack, unpack};
-    if (records == NULL) {
-        records = room();
-        outs = room();
-        digests = room();
-        assignments = room();
-        rights = room();
-        claims = room();
-    }
     struct input in = {data, size};
     functions[take(&in, 1) % 6](&in);
     return 0;

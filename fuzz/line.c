@@ -14,11 +14,18 @@ enum { ROWS, STEPS, PROGRAMS };
 static int (*const programs[PROGRAMS])(void) = {rows_main, steps_main};
 static const char *const headers[PROGRAMS] = {"row,part,wire,coefficient\n", "row,block,step,index,bit,form\n"};
 
-/* ---- Document 01 on the line ---- */
+/* ---- Document 01 on the line, its length in bits by document 02, request 2 ---- */
 
-static uint64_t row_count(uint64_t length)
+enum { MOST_BITS = 8127 };
+
+static uint64_t block_count(uint64_t bits)
 {
-    return 512 + 32320 * ((length + 8) / 64 + 1);
+    return (bits + 64) / 512 + 1;
+}
+
+static uint64_t row_count(uint64_t bits)
+{
+    return 512 + 32320 * block_count(bits);
 }
 
 /* Three fields parted by commas, ended by one line feed and nothing after. */
@@ -41,7 +48,7 @@ static unsigned refusal(const uint8_t *bytes, size_t size, uint64_t values[3])
 {
     if (!numbers(bytes, size, values))
         return 1;
-    if (values[0] > 1015)
+    if (values[0] > MOST_BITS)
         return 2;
     return values[1] + values[2] > row_count(values[0]) ? 3 : 0;
 }
@@ -72,7 +79,7 @@ static int part(char *at, char **fields, int count)
 
 /* A term: parts A to C, wires that rise in a part, coefficients from 1 to p - 1. The line before it is of the row
  * `before`; answers the row of this one. */
-static uint64_t term(char *text, uint64_t length, uint64_t before)
+static uint64_t term(char *text, uint64_t bits, uint64_t before)
 {
     static char sum;
     static uint64_t last;
@@ -80,7 +87,7 @@ static uint64_t term(char *text, uint64_t length, uint64_t before)
     uint64_t row, wire, coefficient;
     MUST(part(text, fields, 4) && printed(fields[0], UINT64_MAX, &row));
     MUST(strlen(fields[1]) == 1 && fields[1][0] >= 'A' && fields[1][0] <= 'C');
-    MUST(printed(fields[2], 513 + 22528 * ((length + 8) / 64 + 1), &wire));
+    MUST(printed(fields[2], 513 + 22528 * block_count(bits), &wire));
     MUST(printed(fields[3], ((uint64_t)1 << 61) - 1, &coefficient) && coefficient > 0);
     if (row != before)
         MUST(fields[1][0] == 'A');
@@ -92,14 +99,14 @@ static uint64_t term(char *text, uint64_t length, uint64_t before)
 }
 
 /* A step: a row number, then the fields of docs/STEPS.md. */
-static uint64_t step(char *text, uint64_t length)
+static uint64_t step(char *text, uint64_t bits)
 {
     static const char steps[] = ",start,message,q,p1,w,wprime,u,ss2,ff,gg,tt1,tt2,p0,result,digest,";
     static const char forms[] = ",fixed,bit,xor of two,xor of three,majority,choice,sum,equal,";
     char *fields[6], name[32];
     uint64_t row, ignored;
     MUST(part(text, fields, 6) && printed(fields[0], UINT64_MAX, &row));
-    MUST(fields[1][0] == 0 || printed(fields[1], (length + 8) / 64 + 1, &ignored));
+    MUST(fields[1][0] == 0 || printed(fields[1], block_count(bits), &ignored));
     snprintf(name, sizeof name, ",%s,", fields[2]);
     MUST(strstr(steps, name) != NULL);
     MUST(printed(fields[3], 68, &ignored) && (fields[4][0] == 0 || printed(fields[4], 34, &ignored)));
@@ -174,8 +181,8 @@ int LLVMFuzzerTestOneInput(const uint8_t *data, size_t size)
 /* A number that matters to some field, one beside the centre, or any up to it. */
 static uint64_t number_near(uint64_t centre)
 {
-    static const uint64_t known[] = {0,    1,     55,    56,     119,      120,       1015,
-                                     1016, 32832, 32833, 517632, 99999999, 100000000, 999999999,
+    static const uint64_t known[] = {0,    1,    7,    8,     447,   448,    959,      960,       8120,
+                                     8127, 8128, 8129, 32832, 32833, 517632, 99999999, 100000000, 999999999,
                                      /* too long: */ 1000000000, UINT32_MAX, (uint64_t)1 << 32, UINT64_MAX};
     uint64_t how = below(16);
     if (how < 3)
@@ -183,10 +190,10 @@ static uint64_t number_near(uint64_t centre)
     return how < 8 ? centre + below(5) - (centre < 2 ? 0 : 2) : below(centre + 1);
 }
 
-/* A length, a first row and how many, as text. Mostly few rows, since many take long. */
+/* Bits, a first row and how many, as text. Mostly few rows, since many take long. */
 static size_t right_line(char *text, size_t text_size)
 {
-    uint64_t numbers[3] = {number_near(1015)}, rows = row_count(numbers[0] % 1016);
+    uint64_t numbers[3] = {number_near(MOST_BITS)}, rows = row_count(numbers[0] % (MOST_BITS + 1));
     numbers[1] = number_near(rows);
     numbers[2] = below(8) > 0 ? below(40) : number_near(numbers[1] < rows ? rows - numbers[1] : 0);
     size_t size = 0;

@@ -1,6 +1,6 @@
 /* libFuzzer harness for the standard input of the program `packed`.
  *
- * A run is as program.h has it. What is printed is held against document 02, request 1: the line, the length and the
+ * A run is as program.h has it. What is printed is held against document 02, requests 1 and 2: the line, the bits and the
  * packed bytes are judged below (refusals 1, 2, 11, 12), and the wires by the archive's check (refusals 7, 8, 9), so that
  * the program and the library must agree. The claims to begin with are made at the start, by the archive. */
 
@@ -13,11 +13,11 @@ int packed_main(void);
 
 /* ---- What the program must print ---- */
 
-enum { DIGITS = 2 * SM3ROWS_DIGEST_BYTES, WIRES = 513 + 22528 * 16 };
+enum { DIGITS = 2 * SM3ROWS_DIGEST_BYTES, WIRES = 513 + 22528 * 16, MOST_BITS = 8127 };
 
-static size_t packed_bytes(uint64_t length)
+static size_t packed_bytes(uint64_t bits)
 {
-    return 65 + 2816 * SM3ROWS_BLOCKS(length);
+    return 65 + 2816 * SM3ROWS_BLOCKS(bits);
 }
 
 /* 64 lower-case hexadecimal digits. */
@@ -35,12 +35,12 @@ static int hexadecimal(const uint8_t *field, size_t size, uint8_t *digest)
     return 1;
 }
 
-/* The line up to the first line feed: length, comma, digest. Answers how many bytes it has, 0 for a bad one. */
-static size_t line(const uint8_t *bytes, size_t size, uint64_t *length, uint8_t *digest)
+/* The line up to the first line feed: bits, comma, digest. Answers how many bytes it has, 0 for a bad one. */
+static size_t line(const uint8_t *bytes, size_t size, uint64_t *bits, uint8_t *digest)
 {
     const uint8_t *end = memchr(bytes, '\n', size);
     const uint8_t *comma = end == NULL ? NULL : memchr(bytes, ',', (size_t)(end - bytes));
-    if (comma == NULL || !decimal(bytes, (size_t)(comma - bytes), length) ||
+    if (comma == NULL || !decimal(bytes, (size_t)(comma - bytes), bits) ||
         !hexadecimal(comma + 1, (size_t)(end - comma - 1), digest))
         return 0;
     return (size_t)(end - bytes) + 1;
@@ -57,20 +57,19 @@ static void unpack(const uint8_t *packed, uint8_t *entries, size_t wires)
 static unsigned refusal(const uint8_t *bytes, size_t size)
 {
     static uint8_t entries[8 * WIRES];
-    uint64_t length;
+    uint64_t bits;
     uint8_t digest[SM3ROWS_DIGEST_BYTES] = {0};
-    size_t begin = line(bytes, size, &length, digest);
+    size_t begin = line(bytes, size, &bits, digest);
     if (begin == 0)
         return 1;
-    if (length > SM3ROWS_LONGEST)
+    if (bits > MOST_BITS)
         return 2;
-    if (size - begin != packed_bytes(length))
+    if (size - begin != packed_bytes(bits))
         return 11;
     if (bytes[size - 1] & 0x7f)
         return 12;
-    unpack(bytes + begin, entries, SM3ROWS_WIRES(length));
-    return SM3ROWS_REFUSAL(
-        sm3rows_check(length, digest, sizeof digest, entries, SM3ROWS_ASSIGNMENT_BYTES(length)));
+    unpack(bytes + begin, entries, SM3ROWS_WIRES(bits));
+    return SM3ROWS_REFUSAL(sm3rows_check(bits, digest, sizeof digest, entries, SM3ROWS_ASSIGNMENT_BYTES(bits)));
 }
 
 /* ---- One run ---- */
@@ -100,8 +99,8 @@ int LLVMFuzzerTestOneInput(const uint8_t *data, size_t size)
 
 /* ---- Claims that are right or nearly so ---- */
 
-/* Claims of one block, as the program reads them. */
-static const size_t lengths[] = {0, 3, 55};
+/* Claims of one block, as the program reads them: of whole bytes, and of records that end inside a byte. */
+static const uint64_t lengths[] = {0, 24, 37, 440, 447};
 enum { CLAIMS = sizeof lengths / sizeof *lengths, CLAIM = 75 + 2881 };
 static struct {
     uint8_t bytes[CLAIM];
@@ -111,19 +110,22 @@ static struct {
 static void make_claim(size_t number)
 {
     static uint8_t entries[8 * WIRES];
-    uint8_t record[55], digest[SM3ROWS_DIGEST_BYTES], *at = claims[number].bytes;
-    size_t length = lengths[number];
+    uint8_t record[56], digest[SM3ROWS_DIGEST_BYTES], *at = claims[number].bytes;
+    uint64_t bits = lengths[number];
+    size_t length = SM3ROWS_RECORD_BYTES(bits);
     memset(record, 'a', sizeof record);
-    MUST(sm3rows_digest(record, length, digest, sizeof digest) == 0);
-    MUST(sm3rows_produce(record, length, entries, sizeof entries) == 0);
-    at += snprintf((char *)at, CLAIM, "%zu,", length);
+    if (bits % 8 > 0)
+        record[length - 1] &= (uint8_t)(0xff << (8 - bits % 8));
+    MUST(sm3rows_digest(bits, record, length, digest, sizeof digest) == 0);
+    MUST(sm3rows_produce(bits, record, length, entries, sizeof entries) == 0);
+    at += snprintf((char *)at, CLAIM, "%u,", (unsigned)bits);
     for (size_t k = 0; k < sizeof digest; k++)
         at += snprintf((char *)at, 3, "%02x", digest[k]);
     *at++ = '\n';
     claims[number].line = (size_t)(at - claims[number].bytes);
-    for (size_t wire = 0; wire < SM3ROWS_WIRES(length); wire++)
+    for (size_t wire = 0; wire < SM3ROWS_WIRES(bits); wire++)
         at[wire / 8] |= (uint8_t)(entries[8 * wire] << (7 - wire % 8));
-    claims[number].size = claims[number].line + packed_bytes(length);
+    claims[number].size = claims[number].line + packed_bytes(bits);
     MUST(refusal(claims[number].bytes, claims[number].size) == 0);
 }
 
@@ -147,14 +149,15 @@ static size_t put_front(uint8_t *bytes, size_t size, size_t front, const uint8_t
 /* Another length, in range or not, in the place of the claim's. */
 static size_t other_length(uint8_t *bytes, size_t size)
 {
-    static const char *const others[] = {"1", "54", "56", "119", "1015", "1016", "1017", "65536", "999999999"};
+    static const char *const others[] = {"1",   "36",  "38",   "40",   "439",  "441",   "446",
+                                         "448", "959", "8127", "8128", "8129", "65536", "999999999"};
     const char *other = others[below(sizeof others / sizeof *others)];
     size_t digits = (size_t)((uint8_t *)memchr(bytes, ',', size) - bytes);
     return put_front(bytes, size, digits, (const uint8_t *)other, strlen(other));
 }
 
-/* A bit of the packed bytes changes: wire 0; one of the first 33 bytes, mostly a digest wire; one of the last byte, mostly
- * a spare one; or any. */
+/* A bit of the packed bytes changes: wire 0; one of the first 33 bytes, mostly a digest wire; one of the last byte,
+ * mostly a spare one; or any. */
 static void turn_bit(uint8_t *packed, size_t size)
 {
     uint8_t bit = (uint8_t)(1 << below(8));

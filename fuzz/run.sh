@@ -36,24 +36,32 @@ build() {
         -o "$work/$harness"
 }
 # clang's runtime for the sanitizers is a package of its own on some systems.
-build entry "$archive" 2> /dev/null ||
-    { install "libclang-rt-$(clang -dumpversion | cut -d. -f1)-dev" && build entry "$archive"; }
+build entry "$root/fuzz/lent.c" "$archive" 2> /dev/null ||
+    { install "libclang-rt-$(clang -dumpversion | cut -d. -f1)-dev" && build entry "$root/fuzz/lent.c" "$archive"; }
 build line "$root/fuzz/program.c" "$work/rows.o" "$work/steps.o"
 build packed "$root/fuzz/program.c" "$work/packed.o" "$archive"
 
-# One input for each function, and some lines, to begin with; claims to `packed` are made by its harness.
+# One input for each function, some for records of 37, 447, 448 and 8,127 bits and for their refusals, and some lines, to
+# begin with; claims to `packed` are made by its harness.
 mkdir -p "$work/entry.corpus" "$work/line.corpus" "$work/packed.corpus"
-printf '\000\000\003\040\000abcabc' > "$work/entry.corpus/digest"
-printf '\001\200\200\000\000' > "$work/entry.corpus/row"
-printf '\002\003\200\000abcabc' > "$work/entry.corpus/produce"
-printf '\003\003\000\001\000\000\002\001\000\003abcabc' > "$work/entry.corpus/check"
-printf '\004\003\000\001\000\000\002\001\000\003abcabc' > "$work/entry.corpus/pack"
-printf '\005\003\000\005\200\000' > "$work/entry.corpus/unpack"
+printf '\000\000\000\030\000\040\000\000\000abcabc' > "$work/entry.corpus/digest"
+printf '\000\000\000\045\000\040\000\000\000abcde' > "$work/entry.corpus/inside"
+printf '\000\000\000\045\300\040\000\000\000abcde' > "$work/entry.corpus/bytes"
+printf '\000\000\000\045\000\040\000\300\000abcde' > "$work/entry.corpus/spare"
+printf '\000\351\000\340\000\040\000\000\000abc' > "$work/entry.corpus/wide"
+printf '\001\000\000\045\004\000\000' > "$work/entry.corpus/row"
+printf '\002\000\000\045\000\200\000\000\000abcde' > "$work/entry.corpus/produce"
+printf '\002\161\007\000\200\000\000\000abcde' > "$work/entry.corpus/one-block"
+printf '\002\161\010\000\200\000\000\000abcde' > "$work/entry.corpus/two-blocks"
+printf '\002\166\007\000\200\000\000\000abcde' > "$work/entry.corpus/longest"
+printf '\003\000\000\045\000\001\000\000\002\001\000\003abcabc' > "$work/entry.corpus/check"
+printf '\004\000\000\045\000\001\000\000\002\001\000\003abcabc' > "$work/entry.corpus/pack"
+printf '\005\000\000\045\000\005\200\000' > "$work/entry.corpus/unpack"
 printf '\000\200\2000,0,2\n' > "$work/line.corpus/rows"
-printf '\001\200\2001,255,4\n' > "$work/line.corpus/steps"
-printf '\000\200\2001016,0,0\n' > "$work/line.corpus/refused"
+printf '\001\200\20037,291,4\n' > "$work/line.corpus/steps"
+printf '\000\200\2008128,0,0\n' > "$work/line.corpus/refused"
 printf '\002\200\2000,32832,1\n' > "$work/line.corpus/pieces"
-printf '\000\200\200%s,%064d\n' 1016 0 > "$work/packed.corpus/refused"
+printf '\000\200\200%s,%064d\n' 8128 0 > "$work/packed.corpus/refused"
 printf '\000\200\200%s,%064d\n' 0 0 > "$work/packed.corpus/empty"
 
 # In the folder of the work, where a crashing input is then written. A claim of one block to `packed` has up to 75 + 2,881

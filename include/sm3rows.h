@@ -1,5 +1,9 @@
 /* SM3 record rows over the prime p = 2^61 - 1: the six operations for a C host.
  *
+ * A record is a string of `bits` bits, 0 to 8,127. It is handed over in bits / 8 bytes, rounded up: its first bit is the
+ * highest of the first byte, and the low bits of the last byte that it does not reach are zero. A record of whole bytes
+ * has 8 x bytes bits. The number is compared as it comes, 64 bits wide.
+ *
  * The answer of every call is one 64-bit number. Its low byte is the refusal's number, 0 for none. What stands above it:
  *   - sm3rows_row without a refusal: how many terms A, B and C have, in bits 8 to 15, 16 to 23 and 24 to 31;
  *   - refusal 9: the lowest row that is not satisfied, from bit 8 on;
@@ -8,7 +12,9 @@
  *
  * Refusals, in the order in which they are looked for. A call skips those that it has no argument for. A refused call
  * changes no byte.
- *   2  the record length is above 1,015
+ *   2  the record length is above 8,127 bits
+ *  13  the record's bytes are not the bits over 8 rounded up
+ *  14  a bit after the last record bit is set: one of the low 8 x bytes - bits bits of the last byte
  *   3  the row number is not below the row count
  *   4  the buffer to be written is shorter than 32 bytes (digest), 1,956 (row), 8 x wires (assignment) or
  *      65 + 2,816 x blocks (packed bytes)
@@ -40,15 +46,16 @@
 extern "C" {
 #endif
 
-/* Sizes for a record of `length` bytes, 0 to 1,015. */
-#define SM3ROWS_LONGEST 1015u
+/* The most bits of a record; and sizes for a record of `bits` bits, from 0 to that many. */
+#define SM3ROWS_MOST_BITS 8127u
 #define SM3ROWS_DIGEST_BYTES 32u
 #define SM3ROWS_ROW_BYTES 1956u
-#define SM3ROWS_BLOCKS(length) (((uint64_t)(length) + 8) / 64 + 1)
-#define SM3ROWS_WIRES(length) (513 + 22528 * SM3ROWS_BLOCKS(length))
-#define SM3ROWS_ROWS(length) (512 + 32320 * SM3ROWS_BLOCKS(length))
-#define SM3ROWS_ASSIGNMENT_BYTES(length) (8 * SM3ROWS_WIRES(length))
-#define SM3ROWS_PACKED_BYTES(length) (65 + 2816 * SM3ROWS_BLOCKS(length))
+#define SM3ROWS_RECORD_BYTES(bits) (((uint64_t)(bits) + 7) / 8)
+#define SM3ROWS_BLOCKS(bits) (((uint64_t)(bits) + 64) / 512 + 1)
+#define SM3ROWS_WIRES(bits) (513 + 22528 * SM3ROWS_BLOCKS(bits))
+#define SM3ROWS_ROWS(bits) (512 + 32320 * SM3ROWS_BLOCKS(bits))
+#define SM3ROWS_ASSIGNMENT_BYTES(bits) (8 * SM3ROWS_WIRES(bits))
+#define SM3ROWS_PACKED_BYTES(bits) (65 + 2816 * SM3ROWS_BLOCKS(bits))
 
 /* The parts of an answer. */
 #define SM3ROWS_REFUSAL(answer) ((unsigned)((answer) & 0xff))
@@ -58,30 +65,32 @@ extern "C" {
 #define SM3ROWS_FAILING_ROW(answer) ((uint64_t)(answer) >> 8)
 #define SM3ROWS_FAILING_WIRE(answer) ((uint64_t)(answer) >> 8)
 
-/* The SM3 digest of the record into the first 32 bytes of out. Refusals 2, 4. */
-uint64_t sm3rows_digest(const uint8_t *record, size_t record_len, uint8_t *out, size_t out_len);
+/* The SM3 digest of the record into the first 32 bytes of out. Bytes of out past it keep their value. Refusals 2, 13, 14,
+ * 4. */
+uint64_t sm3rows_digest(uint64_t bits, const uint8_t *record, size_t record_len, uint8_t *out, size_t out_len);
 
-/* Row number `row` for records of `length` bytes into out: the terms of A, then of B, then of C, 12 bytes each (wire 4,
+/* Row number `row` for records of `bits` bits into out: the terms of A, then of B, then of C, 12 bytes each (wire 4,
  * coefficient 8, least byte first). Bytes of out past the terms keep their value. Refusals 2, 3, 4. */
-uint64_t sm3rows_row(uint64_t length, uint64_t row, uint8_t *out, size_t out_len);
+uint64_t sm3rows_row(uint64_t bits, uint64_t row, uint8_t *out, size_t out_len);
 
 /* The whole assignment of the record into the first 8 x wires bytes of out: 8 bytes a wire, least byte first, each the
- * number 0 or 1. Bytes of out past it keep their value. Refusals 2, 4. */
-uint64_t sm3rows_produce(const uint8_t *record, size_t record_len, uint8_t *out, size_t out_len);
+ * number 0 or 1. Bytes of out past it keep their value. The digest that it is accepted against stands in it: wires 1 to
+ * 256, its first bit first. Refusals 2, 13, 14, 4. */
+uint64_t sm3rows_produce(uint64_t bits, const uint8_t *record, size_t record_len, uint8_t *out, size_t out_len);
 
-/* Whether the assignment, its entries read modulo p, satisfies every row for records of `length` bytes and has this
- * digest. 0 when it does. Refusals 2, 5, 6, 7, 8, 9. */
-uint64_t sm3rows_check(uint64_t length, const uint8_t *digest, size_t digest_len, const uint8_t *assignment,
+/* Whether the assignment, its entries read modulo p, satisfies every row for records of `bits` bits and has this digest.
+ * 0 when it does. Refusals 2, 5, 6, 7, 8, 9. */
+uint64_t sm3rows_check(uint64_t bits, const uint8_t *digest, size_t digest_len, const uint8_t *assignment,
                        size_t assignment_len);
 
-/* The assignment for records of `length` bytes, its entries read modulo p, at one bit a wire into the first
+/* The assignment for records of `bits` bits, its entries read modulo p, at one bit a wire into the first
  * 65 + 2,816 x blocks bytes of out: wire w in byte w / 8, the first wire in the highest bit, the spare low bits zero.
  * Bytes of out past them keep their value. Refusals 2, 4, 6, 10. */
-uint64_t sm3rows_pack(uint64_t length, const uint8_t *assignment, size_t assignment_len, uint8_t *out, size_t out_len);
+uint64_t sm3rows_pack(uint64_t bits, const uint8_t *assignment, size_t assignment_len, uint8_t *out, size_t out_len);
 
 /* The way back: the assignment of packed bytes into the first 8 x wires bytes of out, laid out as by sm3rows_produce.
  * Bytes of out past it keep their value. Refusals 2, 4, 11, 12. */
-uint64_t sm3rows_unpack(uint64_t length, const uint8_t *packed, size_t packed_len, uint8_t *out, size_t out_len);
+uint64_t sm3rows_unpack(uint64_t bits, const uint8_t *packed, size_t packed_len, uint8_t *out, size_t out_len);
 
 #ifdef __cplusplus
 }

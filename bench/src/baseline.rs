@@ -2,6 +2,7 @@
 
 use judge::forms::RowTable;
 use judge::length::Length;
+use judge::record::Record;
 
 #[repr(C)]
 struct RowsOfC {
@@ -13,7 +14,7 @@ struct RowsOfC {
 }
 
 extern "C" {
-    fn baseline_produce(record: *const u8, length: usize, out: *mut u64);
+    fn baseline_produce(bits: usize, record: *const u8, out: *mut u64);
     fn baseline_pack(wires: usize, assignment: *const u8, out: *mut u8) -> u64;
     fn baseline_pack_copied(wires: usize, assignment: *const u8, out: *mut u8) -> u64;
     fn baseline_unpack(wires: usize, packed: *const u8, packed_len: usize, out: *mut u64) -> u64;
@@ -26,10 +27,9 @@ extern "C" {
 }
 
 /// The record's assignment; `out` must have room for all wires.
-pub fn produce(record: &[u8], out: &mut [u64]) {
-    let length = Length::of(record).expect("a record in range");
-    assert!(out.len() >= length.wires());
-    unsafe { baseline_produce(record.as_ptr(), record.len(), out.as_mut_ptr()) }
+pub fn produce(record: &Record, out: &mut [u64]) {
+    assert!(out.len() >= record.length().wires());
+    unsafe { baseline_produce(record.bits(), record.bytes().as_ptr(), out.as_mut_ptr()) }
 }
 
 type PackingOfC = unsafe extern "C" fn(usize, *const u8, *mut u8) -> u64;

@@ -3,6 +3,7 @@
 //! `bench [--runs N] [--csv FILE] [--program FILE] [--without FEATURE]`.
 
 mod baseline;
+mod inside;
 mod libgcrypt;
 mod measures;
 mod packing;
@@ -15,15 +16,27 @@ use std::process::ExitCode;
 
 use judge::length::Length;
 
+use inside::Pair;
 use measures::OURS;
 use timing::Figure;
 
-/// Records of 1, 2, 4, 8 and 16 blocks, the longest of each.
-const GROWTH: [u64; 5] = [55, 119, 247, 503, 1015];
+// All lengths are in bits.
+
+/// Records of 0, 63 and 1,015 bytes, for the digest beside the libraries.
+const DIGESTS: [u64; 3] = [0, 504, 8120];
+
+/// Records of 1, 2, 4, 8 and 16 blocks, the longest of each that are whole
+/// bytes.
+const GROWTH: [u64; 5] = [440, 952, 1976, 4024, 8120];
 
 /// Those of 1, 2 and 16 blocks, at which the check and packing are timed on
 /// other claims too.
-const OTHER_CLAIMS: [u64; 3] = [55, 119, 1015];
+const OTHER_CLAIMS: [u64; 3] = [440, 952, 8120];
+
+/// Records that end inside a byte, each beside one of whole bytes that has as
+/// many blocks.
+const DIGESTS_INSIDE: [Pair; 3] = [[501, 504], [8117, 8120], [8127, 8120]];
+const PRODUCERS_INSIDE: [Pair; 3] = [[437, 440], [8117, 8120], [8127, 8120]];
 
 struct Options {
     runs: u32,
@@ -58,7 +71,7 @@ fn options(arguments: &[String]) -> Option<Options> {
 fn target(measure: &str, side: &str) -> Option<f64> {
     match (measure, side) {
         ("digest", "openssl") => Some(1.0),
-        ("produce", "c-loop") => Some(1.5),
+        ("produce" | "produce-inside", "c-loop") => Some(1.5),
         ("check", "c-sparse") => Some(0.25),
         ("pack" | "unpack", "c-loop") => Some(1.0),
         _ => None,
@@ -67,9 +80,17 @@ fn target(measure: &str, side: &str) -> Option<f64> {
 
 fn print_heading() {
     println!(
-        "{:13} {:>6} {:>6} {:>12} {:>12}  {:16} {:>6}  target",
-        "measure", "bytes", "blocks", "sm3rows us", "other us", "other side", "ratio"
+        "{:14} {:>6} {:>6} {:>12} {:>12}  {:17} {:>6}  target",
+        "measure", "bits", "blocks", "sm3rows us", "other us", "other side", "ratio"
     );
+}
+
+/// The other side of a line, with its length where that is another one.
+fn other_side(ours: &Figure, other: &Figure) -> String {
+    match other.bits == ours.bits {
+        true => other.side.to_string(),
+        false => format!("{} {} bits", other.side, other.bits),
+    }
 }
 
 /// One measure at one length: a line for every side beside ours.
@@ -84,13 +105,13 @@ fn print_measure(figures: &[Figure]) {
             None => String::from("-"),
         };
         println!(
-            "{:13} {:>6} {:>6} {:>12.2} {:>12.2}  {:16} {ratio:>6.2}  {target}",
+            "{:14} {:>6} {:>6} {:>12.2} {:>12.2}  {:17} {ratio:>6.2}  {target}",
             ours.measure,
-            ours.bytes,
+            ours.bits,
             ours.blocks,
             us(ours),
             us(other),
-            other.side
+            other_side(ours, other)
         );
     }
 }
@@ -136,7 +157,7 @@ fn print_rates(figures: &[Figure], measure: &str) {
             side.side
         );
         for figure in of_measure().filter(|figure| figure.side == side.side) {
-            let bytes = Length::new(figure.bytes).map_or(0, Length::assignment_bytes);
+            let bytes = Length::new(figure.bits).map_or(0, Length::assignment_bytes);
             print!(" {:.1}", bytes as f64 / figure.nanoseconds);
         }
         println!();
@@ -154,16 +175,16 @@ fn print_over_blocks(figures: &[Figure]) {
 }
 
 fn csv(figures: &[Figure]) -> String {
-    let mut text = String::from("measure,bytes,blocks,side,nanoseconds\n");
+    let mut text = String::from("measure,bits,blocks,side,nanoseconds\n");
     for figure in figures {
         let Figure {
             measure,
-            bytes,
+            bits,
             blocks,
             side,
             nanoseconds,
         } = figure;
-        let _ = writeln!(text, "{measure},{bytes},{blocks},{side},{nanoseconds:.1}");
+        let _ = writeln!(text, "{measure},{bits},{blocks},{side},{nanoseconds:.1}");
     }
     text
 }
@@ -182,20 +203,23 @@ fn measure_all(runs: u32) -> Vec<Figure> {
         print_measure(&figures);
         all.extend(figures);
     };
-    for length in [0, 63, 1015] {
-        take(measures::digest(length, runs));
+    for bits in DIGESTS {
+        take(measures::digest(bits, runs));
     }
-    measures::produce(&GROWTH, runs)
-        .into_iter()
-        .for_each(&mut take);
-    for length in GROWTH {
-        take(measures::check(length, runs));
+    let producing = [
+        inside::digest(&DIGESTS_INSIDE, runs),
+        measures::produce(&GROWTH, runs),
+        inside::produce(&PRODUCERS_INSIDE, runs),
+    ];
+    producing.into_iter().flatten().for_each(&mut take);
+    for bits in GROWTH {
+        take(measures::check(bits, runs));
     }
-    for length in OTHER_CLAIMS {
-        take(measures::check_shifted(length, runs));
+    for bits in OTHER_CLAIMS {
+        take(measures::check_shifted(bits, runs));
     }
-    for length in OTHER_CLAIMS {
-        take(measures::check_refused(length, runs));
+    for bits in OTHER_CLAIMS {
+        take(measures::check_refused(bits, runs));
     }
     let packing = [
         packing::pack(&GROWTH, runs),

@@ -12,6 +12,7 @@ use judge::check::check_with;
 use judge::field::P;
 use judge::forms::RowTable;
 use judge::length::Length;
+use judge::record::Record;
 use judge::refusal::Refusal;
 use judge::{layout, rows, sm3};
 
@@ -24,8 +25,21 @@ pub const OURS: &str = "sm3rows";
 /// The measure that `growth` takes.
 pub const SAME_MEMORY: &str = "produce-same-memory";
 
-pub fn record(length: u64) -> Vec<u8> {
-    (0..length).map(|k| (k * k + 7 * k + 3) as u8).collect()
+/// A record of so many bits.
+pub fn record(bits: u64) -> Record {
+    let byte = |k: u64| (k * k + 7 * k + 3) as u8;
+    let bytes: Vec<u8> = (0..bits.div_ceil(8)).map(byte).collect();
+    Record::front(bits, &bytes).expect("a length in range")
+}
+
+/// Our digest of a record, a call that is timed.
+pub fn digest_ours(record: &Record, out: &mut [u8; 32]) -> u64 {
+    host::digest(Empty::Null, record.bits() as u64, record.bytes(), out)
+}
+
+/// Our assignment of a record, a call that is timed.
+pub fn produce_ours(record: &Record, out: &mut [u8]) -> u64 {
+    host::produce(Empty::Null, record.bits() as u64, record.bytes(), out)
 }
 
 /// Entries as the bytes of an assignment.
@@ -44,44 +58,45 @@ pub fn shift(assignment: &mut [u8]) {
     }
 }
 
-fn figures(measure: &'static str, bytes: u64, times: Vec<(&'static str, f64)>) -> Vec<Figure> {
-    let blocks = Length::new(bytes).map_or(0, Length::blocks);
-    let figure = |(side, nanoseconds)| Figure {
+pub fn figures(measure: &'static str, bits: u64, times: &[(&'static str, f64)]) -> Vec<Figure> {
+    let blocks = Length::new(bits).map_or(0, Length::blocks);
+    let figure = |&(side, nanoseconds)| Figure {
         measure,
-        bytes,
+        bits,
         blocks,
         side,
         nanoseconds,
     };
-    times.into_iter().map(figure).collect()
+    times.iter().map(figure).collect()
 }
 
-/// The digest beside OpenSSL's, with a context kept and by one call, and
-/// libgcrypt's.
-pub fn digest(length: u64, runs: u32) -> Vec<Figure> {
-    let record = record(length);
+/// The digest of a record of whole bytes beside OpenSSL's, with a context kept
+/// and by one call, and libgcrypt's.
+pub fn digest(bits: u64, runs: u32) -> Vec<Figure> {
+    let record = record(bits);
+    let bytes = record.bytes();
     let (mut ours, mut theirs, mut third) = ([0; 32], [0; 32], [0; 32]);
     let mut context = Context::new();
-    assert_eq!(host::digest(Empty::Null, &record, &mut ours), 0);
-    context.digest(&record, &mut theirs);
-    libgcrypt::digest(&record, &mut third);
+    assert_eq!(digest_ours(&record, &mut ours), 0);
+    context.digest(bytes, &mut theirs);
+    libgcrypt::digest(bytes, &mut third);
     assert_eq!([ours, theirs, third], [sm3::hash(&record); 3]);
     let sides = vec![
-        side(OURS, || host::digest(Empty::Null, &record, &mut ours)),
-        side("openssl", || context.digest(&record, &mut theirs)),
-        side("openssl-one-call", || openssl::one_call(&record)),
-        side("libgcrypt", || libgcrypt::digest(&record, &mut third)),
+        side(OURS, || digest_ours(&record, &mut ours)),
+        side("openssl", || context.digest(bytes, &mut theirs)),
+        side("openssl-one-call", || openssl::one_call(bytes)),
+        side("libgcrypt", || libgcrypt::digest(bytes, &mut third)),
     ];
-    figures("digest", length, best(sides, runs))
+    figures("digest", bits, &best(sides, runs))
 }
 
 /// The two producers at one length, each with a buffer of its own.
-fn producers(length: u64) -> [Side<'static>; 2] {
-    let record = record(length);
+fn producers(bits: u64) -> [Side<'static>; 2] {
+    let record = record(bits);
     let right = layout::assignment(&record);
     let mut ours = vec![0u8; right.len()];
     let mut theirs = vec![0u64; right.len() / 8];
-    assert_eq!(host::produce(Empty::Null, &record, &mut ours), 0);
+    assert_eq!(produce_ours(&record, &mut ours), 0);
     baseline::produce(&record, &mut theirs);
     assert!(ours == right, "the producer and the judge differ");
     assert!(
@@ -90,7 +105,7 @@ fn producers(length: u64) -> [Side<'static>; 2] {
     );
     let same = record.clone();
     [
-        side(OURS, move || host::produce(Empty::Null, &record, &mut ours)),
+        side(OURS, move || produce_ours(&record, &mut ours)),
         side("c-loop", move || baseline::produce(&same, &mut theirs)),
     ]
 }
@@ -103,10 +118,10 @@ pub fn turn_by_turn<const SIDES: usize>(
     lengths: &[u64],
     runs: u32,
 ) -> Vec<Vec<Figure>> {
-    let all = lengths.iter().flat_map(|&length| sides(length));
+    let all = lengths.iter().flat_map(|&bits| sides(bits));
     let times = best(all.collect(), runs);
     let each = lengths.iter().zip(times.chunks(SIDES));
-    each.map(|(&length, times)| figures(measure, length, times.to_vec()))
+    each.map(|(&bits, times)| figures(measure, bits, times))
         .collect()
 }
 
@@ -120,10 +135,10 @@ pub fn produce(lengths: &[u64], runs: u32) -> Vec<Vec<Figure>> {
 /// through all of it. So the caches serve each length alike, and what is off a
 /// straight line is the code's.
 pub fn growth(lengths: &[u64], runs: u32) -> Vec<Figure> {
-    let size = |length| Length::new(length).map_or(0, Length::assignment_bytes);
+    let size = |bits| Length::new(bits).map_or(0, Length::assignment_bytes);
     let memory = RefCell::new(vec![0u8; 16 * size(0)]);
-    let call = |length| {
-        let (record, size, memory) = (record(length), size(length), &memory);
+    let call = |bits| {
+        let (record, size, memory) = (record(bits), size(bits), &memory);
         let mut begin = 0;
         side(OURS, move || {
             let mut memory = memory.borrow_mut();
@@ -132,12 +147,12 @@ pub fn growth(lengths: &[u64], runs: u32) -> Vec<Figure> {
             }
             let out = &mut memory[begin..begin + size];
             begin += size;
-            assert_eq!(host::produce(Empty::Null, &record, out), 0);
+            assert_eq!(produce_ours(&record, out), 0);
         })
     };
-    let sides = lengths.iter().map(|&length| call(length)).collect();
+    let sides = lengths.iter().map(|&bits| call(bits)).collect();
     let times = lengths.iter().zip(best(sides, runs));
-    let figure = |(&length, time)| figures(SAME_MEMORY, length, vec![time]);
+    let figure = |(&bits, time)| figures(SAME_MEMORY, bits, &[time]);
     times.flat_map(figure).collect()
 }
 
@@ -152,9 +167,9 @@ struct Claim {
 }
 
 impl Claim {
-    fn new(bytes: u64) -> Claim {
-        let record = record(bytes);
-        let length = Length::of(&record).expect("a record in range");
+    fn new(bits: u64) -> Claim {
+        let record = record(bits);
+        let length = record.length();
         let table = rows::rows(length);
         Claim {
             length,
@@ -168,9 +183,8 @@ impl Claim {
     /// The check beside the stored sparse matrix on these bytes, and beside
     /// the judge where it is asked for. All must answer alike.
     fn measure(mut self, name: &'static str, answer: u64, judge: bool, runs: u32) -> Vec<Figure> {
-        let (bytes, digest, assignment) =
-            (self.length.bytes() as u64, self.digest, &self.assignment);
-        let ours = || host::check(Empty::Null, bytes, &digest, assignment);
+        let (bits, digest, assignment) = (self.length.bits() as u64, self.digest, &self.assignment);
+        let ours = || host::check(Empty::Null, bits, &digest, assignment);
         let judged = || check_with(&self.table, self.length, assignment, &digest);
         let known = match judged() {
             Ok(()) => 0,
@@ -186,20 +200,20 @@ impl Claim {
         if judge {
             sides.push(side("judge", judged));
         }
-        figures(name, bytes, best(sides, runs))
+        figures(name, bits, &best(sides, runs))
     }
 }
 
 /// The check of a right assignment, beside the stored sparse matrix in C and
 /// beside the judge.
-pub fn check(length: u64, runs: u32) -> Vec<Figure> {
-    Claim::new(length).measure("check", 0, true, runs)
+pub fn check(bits: u64, runs: u32) -> Vec<Figure> {
+    Claim::new(bits).measure("check", 0, true, runs)
 }
 
 /// The check of a right assignment with p added to every entry, which is
 /// accepted all the same.
-pub fn check_shifted(length: u64, runs: u32) -> Vec<Figure> {
-    let mut claim = Claim::new(length);
+pub fn check_shifted(bits: u64, runs: u32) -> Vec<Figure> {
+    let mut claim = Claim::new(bits);
     shift(&mut claim.assignment);
     claim.measure("check-shifted", 0, false, runs)
 }
@@ -208,15 +222,15 @@ pub fn check_shifted(length: u64, runs: u32) -> Vec<Figure> {
 /// block's result, is turned over. The digest wires agree with the digest, and
 /// all rows hold up to the last one of the last block, which ties that bit to
 /// the rounds; 256 digest rows come after it.
-pub fn check_refused(length: u64, runs: u32) -> Vec<Figure> {
-    let mut claim = Claim::new(length);
+pub fn check_refused(bits: u64, runs: u32) -> Vec<Figure> {
+    let mut claim = Claim::new(bits);
     let last = claim.assignment.len() - 8;
     claim.assignment[last] ^= 1;
     let row = claim.table.count() as u64 - 256 - 1;
     claim.measure("check-refused", 9 | row << 8, false, runs)
 }
 
-/// All rows of the longest records by the program `rows`: lines a second.
+/// All rows of records of 16 blocks by the program `rows`: lines a second.
 pub fn lines_a_second(program: &Path) -> std::io::Result<f64> {
     let mut most: f64 = 0.0;
     for _ in 0..3 {
@@ -226,7 +240,7 @@ pub fn lines_a_second(program: &Path) -> std::io::Result<f64> {
             .stdout(Stdio::piped())
             .spawn()?;
         let mut stdin = child.stdin.take().expect("a pipe");
-        stdin.write_all(b"1015,0,517632\n")?;
+        stdin.write_all(b"8120,0,517632\n")?;
         drop(stdin);
         let printed = child.wait_with_output()?.stdout;
         let lines = printed.iter().filter(|&&byte| byte == b'\n').count();

@@ -11,14 +11,14 @@ use crate::baseline;
 use crate::measures::{as_bytes, record, shift, turn_by_turn, OURS};
 use crate::timing::{side, Figure, Side};
 
-fn in_range(length: u64) -> Length {
-    Length::new(length).expect("a length in range")
+fn in_range(bits: u64) -> Length {
+    Length::new(bits).expect("a length in range")
 }
 
 /// The packed bytes of an assignment, by the judge.
-fn packed(length: u64, assignment: &[u8]) -> Vec<u8> {
-    let mut out = vec![0; in_range(length).packed_bytes()];
-    judge::packing::pack(length, assignment, &mut out).expect("entries that read as bits");
+fn packed(bits: u64, assignment: &[u8]) -> Vec<u8> {
+    let mut out = vec![0; in_range(bits).packed_bytes()];
+    judge::packing::pack(bits, assignment, &mut out).expect("entries that read as bits");
     out
 }
 
@@ -26,12 +26,12 @@ fn packed(length: u64, assignment: &[u8]) -> Vec<u8> {
 type Packing = fn(Length, &[u8], &mut [u8]) -> u64;
 
 fn pack_ours(length: Length, assignment: &[u8], out: &mut [u8]) -> u64 {
-    host::pack(Empty::Null, length.bytes() as u64, assignment, out)
+    host::pack(Empty::Null, length.bits() as u64, assignment, out)
 }
 
 /// The packing of this assignment by one side, with a buffer of its own.
-fn packer(name: &'static str, pack: Packing, assignment: Rc<[u8]>, length: u64) -> Side<'static> {
-    let (right, length) = (packed(length, &assignment), in_range(length));
+fn packer(name: &'static str, pack: Packing, assignment: Rc<[u8]>, bits: u64) -> Side<'static> {
+    let (right, length) = (packed(bits, &assignment), in_range(bits));
     let mut out = vec![0xa5; right.len()];
     let last = length.wires() - 1;
     let mut no_bit = assignment.to_vec();
@@ -44,44 +44,44 @@ fn packer(name: &'static str, pack: Packing, assignment: Rc<[u8]>, length: u64) 
     side(name, move || pack(length, &assignment, &mut out))
 }
 
-fn packers(assignment: Vec<u8>, length: u64) -> [Side<'static>; 3] {
+fn packers(assignment: Vec<u8>, bits: u64) -> [Side<'static>; 3] {
     let assignment: Rc<[u8]> = assignment.into();
     let sides: [(_, Packing); 3] = [
         (OURS, pack_ours),
         ("c-loop", baseline::pack),
         ("c-copied", baseline::pack_copied),
     ];
-    sides.map(|(name, pack)| packer(name, pack, Rc::clone(&assignment), length))
+    sides.map(|(name, pack)| packer(name, pack, Rc::clone(&assignment), bits))
 }
 
 /// Packing beside the plain C loops, in two passes and by a copy.
 pub fn pack(lengths: &[u64], runs: u32) -> Vec<Vec<Figure>> {
-    let sides = |length| packers(layout::assignment(&record(length)), length);
+    let sides = |bits| packers(layout::assignment(&record(bits)), bits);
     turn_by_turn("pack", sides, lengths, runs)
 }
 
 /// The same with p added to every entry.
 pub fn pack_shifted(lengths: &[u64], runs: u32) -> Vec<Vec<Figure>> {
-    let sides = |length| {
-        let mut assignment = layout::assignment(&record(length));
+    let sides = |bits| {
+        let mut assignment = layout::assignment(&record(bits));
         shift(&mut assignment);
-        packers(assignment, length)
+        packers(assignment, bits)
     };
     turn_by_turn("pack-shifted", sides, lengths, runs)
 }
 
 /// The two ways of unpacking at one length, each with a buffer of its own.
-fn unpackers(length: u64) -> [Side<'static>; 2] {
-    let right = layout::assignment(&record(length));
-    let packed: Rc<[u8]> = packed(length, &right).into();
+fn unpackers(bits: u64) -> [Side<'static>; 2] {
+    let right = layout::assignment(&record(bits));
+    let packed: Rc<[u8]> = packed(bits, &right).into();
     let mut ours = vec![0u8; right.len()];
     let mut theirs = vec![0u64; right.len() / 8];
     let mut spare = packed.to_vec();
     *spare.last_mut().expect("packed bytes") |= 1;
     for (answer, bytes) in [(11, &packed[1..]), (12, &spare), (0, &packed)] {
         let both = [
-            host::unpack(Empty::Null, length, bytes, &mut ours),
-            baseline::unpack(in_range(length), bytes, &mut theirs),
+            host::unpack(Empty::Null, bits, bytes, &mut ours),
+            baseline::unpack(in_range(bits), bytes, &mut theirs),
         ];
         assert_eq!(both, [answer; 2]);
     }
@@ -93,10 +93,10 @@ fn unpackers(length: u64) -> [Side<'static>; 2] {
     let same = Rc::clone(&packed);
     [
         side(OURS, move || {
-            host::unpack(Empty::Null, length, &packed, &mut ours)
+            host::unpack(Empty::Null, bits, &packed, &mut ours)
         }),
         side("c-loop", move || {
-            baseline::unpack(in_range(length), &same, &mut theirs)
+            baseline::unpack(in_range(bits), &same, &mut theirs)
         }),
     ]
 }

@@ -44,9 +44,10 @@ pub fn side<'a, R>(name: &'static str, mut call: impl FnMut() -> R + 'a) -> Side
 }
 
 /// What was measured: the best time of one call, in nanoseconds.
+#[derive(Clone)]
 pub struct Figure {
     pub measure: &'static str,
-    pub bytes: u64,
+    pub bits: u64,
     pub blocks: usize,
     pub side: &'static str,
     pub nanoseconds: f64,

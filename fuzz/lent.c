@@ -1,0 +1,77 @@
+/* See lent.h. */
+
+#define _GNU_SOURCE
+#include <stdlib.h>
+#include <string.h>
+#include <sys/mman.h>
+
+#include "lent.h"
+
+uint64_t take(struct input *in, int bytes)
+{
+    uint64_t value = 0;
+    for (int k = 0; k < bytes; k++) {
+        value = value << 8 | (in->left > 0 ? *in->at : 0);
+        if (in->left > 0) {
+            in->at++;
+            in->left--;
+        }
+    }
+    return value;
+}
+
+uint64_t take_near(struct input *in, uint64_t centre)
+{
+    uint64_t how = take(in, 1);
+    if (how == 0)
+        return take(in, 8);
+    if (how < 64)
+        return take(in, 3);
+    return centre + how - 160;
+}
+
+size_t take_size(struct input *in, int near, size_t exact)
+{
+    return near ? exact + take(in, 1) - 128 : exact;
+}
+
+uint8_t *room(void)
+{
+    uint8_t *all = mmap(NULL, ROOM + 2 * PAGE, PROT_NONE, MAP_PRIVATE | MAP_ANONYMOUS, -1, 0);
+    if (all == MAP_FAILED || mprotect(all + PAGE, ROOM, PROT_READ | PROT_WRITE) != 0)
+        abort();
+    return all + PAGE;
+}
+
+uint8_t *slice(uint8_t *room, size_t length, uint64_t how)
+{
+    if (length == 0 && how % 4 == 0)
+        return NULL;
+    return how % 2 == 0 ? room + ROOM - length : room;
+}
+
+void fill(uint8_t *bytes, size_t length)
+{
+    if (length > 0)
+        memset(bytes, 0xa5, length);
+}
+
+int filled(const uint8_t *bytes, size_t length)
+{
+    for (size_t k = 0; k < length; k++)
+        if (bytes[k] != 0xa5)
+            return 0;
+    return 1;
+}
+
+uint64_t entry(const uint8_t *assignment, size_t wire)
+{
+    uint64_t value;
+    memcpy(&value, assignment + 8 * wire, 8);
+    return value;
+}
+
+uint64_t bit(const uint8_t *bytes, size_t number)
+{
+    return bytes[number / 8] >> (7 - number % 8) & 1;
+}

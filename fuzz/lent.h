@@ -1,0 +1,46 @@
+/* What a call of the archive is made from: numbers and bytes from a fuzzer's input, and slices to be lent. */
+
+#ifndef LENT_H
+#define LENT_H
+
+#include <stddef.h>
+#include <stdint.h>
+
+/* ---- The input, byte by byte; past its end come zeros. ---- */
+
+struct input {
+    const uint8_t *at;
+    size_t left;
+};
+
+/* A number of so many bytes. */
+uint64_t take(struct input *in, int bytes);
+
+/* A number near one that matters, or any number of 8 bytes. */
+uint64_t take_near(struct input *in, uint64_t centre);
+
+/* A size that is right, or one near it. */
+size_t take_size(struct input *in, int near, size_t exact);
+
+/* ---- Slices between pages that cannot be touched. ---- */
+
+enum { PAGE = 4096, ROOM = 3 << 20 };
+
+uint8_t *room(void);
+
+/* A slice at the end or at the beginning of a room; an empty one may be null. */
+uint8_t *slice(uint8_t *room, size_t length, uint64_t how);
+
+/* What a buffer holds before a call, and whether it still does. */
+void fill(uint8_t *bytes, size_t length);
+int filled(const uint8_t *bytes, size_t length);
+
+/* ---- What is read in a slice ---- */
+
+/* A wire's entry of an assignment. */
+uint64_t entry(const uint8_t *assignment, size_t wire);
+
+/* A bit of a record, of a digest or of packed bytes, the highest of a byte first. */
+uint64_t bit(const uint8_t *bytes, size_t number);
+
+#endif
