@@ -13,10 +13,10 @@ use lib.Dec.{ltb}
 use lib.ListN.{length}
 use Rattle.block.proofs.exact.Block.{blockForms}
 use Rattle.block.specs.Steps.{blockRows}
-use Rattle.block.specs.declared.step.Step.the-variants.{Digest, Message, Start}
+use Rattle.block.specs.declared.step.Step.the-variants.{Message}
 use Rattle.circuit.proofs.exact.Frame.{block-row}
 use Rattle.circuit.proofs.place.FormLayout.{form-at}
-use Rattle.circuit.specs.Circuit.{begins, digestForm, formAt, formOf, messageForm, rowAt, startForm}
+use Rattle.circuit.specs.Circuit.{begins, digestForm, formAt, formOf, messageForm, rowAt}
 use Rattle.circuit.specs.Circuits.{messageOf}
 use Rattle.circuit.specs.Places.{frameLayout, rowCount}
 use Rattle.circuit.specs.WholeBytes.{WholeBytes, rowsOfBytes, wiresOfBytes}
@@ -97,7 +97,7 @@ module _ (n m k : ℕ) (same : blocks n ≡ blocks m) (below : k < rowCount n) (
       ∙ ap (λ c. digestForm (blockFirst (c - 1)) (j / 32) (j % 32)) same
       ∙ sym (at m also (omega (arith, ap (λ c. blockRows * c) same)))
 
-  pub same-row : formAt n k ≡ formAt m k
+  same-row : formAt n k ≡ formAt m k
   unfolding rowCount
   same-row =
       by-cases (decLt k 256) start-row

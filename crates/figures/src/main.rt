@@ -5,9 +5,10 @@
 // is k mod 251 (the crate `sample`). Of 0, 55, 56, 63, 64, 119, 120 and 1,015 bytes, lengths in bits 0 to 8,120, the digests are
 // OpenSSL 3.0's:
 //     python3 -c 'import sys; sys.stdout.buffer.write(bytes(k % 251 for k in range(L)))' | openssl dgst -sm3
-// OpenSSL hashes whole bytes. Of 1, 5, 447, 449, 505, 511, 959, 961 and 8,127 bits the digests are the judge's, which hashes bit
-// strings and is written from the standard (tests/judge), where the bits after the last are 0 in their byte:
-//     python3 -c 'import sys; sys.stdout.buffer.write(..)' | judge digest BITS
+// OpenSSL hashes whole bytes. Of 1, 5, 447, 449, 505, 511, 959, 961 and 8,127 bits the digests are the judge's (tests/judge), an
+// SM3 of bit strings that is written from the standard; the bits after the last are 0 in their byte:
+//     python3 -c 'import sys; n = BITS; b = bytearray(k % 251 for k in range((n + 7) // 8)); b[-1] &= 255 << -n % 8 & 255;
+//         sys.stdout.buffer.write(b)' | judge digest BITS
 //
 // The rows are document 01's, each a line: the refusal's number, 0 for none, the counts of A, B and C, and three terms,
 // each a wire and a coefficient. Row 256 fixes wire 513 to 1 at 0 bits; at 1 byte, and at 1 bit too, it is a bit row, with p - 1

@@ -2,12 +2,12 @@
 -- ask the range and the counts, and 13 and 14 do not come up.
 use mathlib.Core.Bool.{cond}
 use mathlib.Core.List.{List}
-use mathlib.Core.Path.{_≡_, _∙_, ap, ap₂}
-use Prim.Native.Nat.{ℕ, _*_}
+use mathlib.Core.Path.{_∙_, ap, ap₂}
+use Prim.Native.Nat.{_*_}
 use lib.Dec.{ltb}
 use lib.ListN.{length}
 use Rattle.circuit.proofs.WholeBytes as circuit
-use Rattle.circuit.specs.Wires.{frameWires, wireCount}
+use Rattle.circuit.specs.Wires.{frameWires}
 use Rattle.record.specs.Check.{checkAnswer}
 use Rattle.record.specs.Layout.{messageWires, wireOf}
 use Rattle.record.specs.RowAnswer.{rowAnswer}

@@ -1,16 +1,15 @@
 -- There are three kinds of block that the record does not fill: one past the record with the length, one with the record's
 -- end and the length, one with the record's end alone. Each is the message's bytes, and these have the message's bits.
 use mathlib.Core.List.{List}
-use mathlib.Core.Path.{_≡_, _∙_, ap, ap₂, refl, sym}
-use Prim.Native.Nat.{ℕ, suc, _+_, _-_, _*_, _/_, _%_, _^_}
+use mathlib.Core.Path.{_∙_, refl}
+use Prim.Native.Nat.{ℕ, _-_}
 use native.Mathlib.Omega.{arith}
 use borrow.Author.Needs.{needs}
 use denote.Ref.{now}
 use lib.ListN.{getD, set}
-use Rattle.encoding.proofs.Tab.{getD-tab}
 use Rattle.encoding.specs.Sequence.{tab}
 use Rattle.sm3.proofs.message.PaddedBlock.{end-cut, end-laid, endedBytes, last, length-set, not-last, withLength, zeros-laid}
-use Rattle.sm3.proofs.message.Padding.{block-bits, cutAfter}
+use Rattle.sm3.proofs.message.Padding.{block-bits}
 use Rattle.sm3.specs.Message.{blocks}
 use Rattle.sm3.proofs.message.padded.Statement.{statement}
 use Rattle.sm3.proofs.message.padded.Tie as tie
