@@ -1,4 +1,5 @@
 pub mod Digest
+pub mod Ended
 pub mod Handed
 pub mod Message
 pub mod Sm3

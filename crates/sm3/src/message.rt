@@ -1,7 +1,8 @@
 // The blocks of a record's padded message, one at a time.
 ghost use mathlib.Core.Path.{_≡_};
-ghost use Prim.Native.Nat.{ℕ, _+_, _-_, _*_, _/_, _%_, _<_, _≤_, _^_};
+ghost use Prim.Native.Nat.{ℕ, _+_, _-_, _*_, _/_, _%_, _<_, _≤_};
 ghost use lib.ListN.{length, getD, set, take};
+ghost use Rattle.sm3.specs.Ended.{cutByte, endedByte};
 ghost use Rattle.sm3.specs.Message.{blockBits, blocks, digestOf, message, mostBits};
 ghost use Rattle.sm3.specs.Sm3.{block, expansion, rotatedConstant};
 ghost use Rattle.encoding.specs.Bits.{bitOfBytes};
@@ -25,35 +26,48 @@ pub fn block_count(bits: u64) -> u64
     (bits + 64) / 512 + 1
 }
 
-// The bytes of the record from `at` on, at most 64, with zeros after them.
+// The bytes of the record from `at` on, at most 64, with zeros after them; zeros alone where the record ends before.
 fn tail(bytes: &[u8], at: usize) -> [u8; 64]
-    requires { ⌜ (at ≤ length (now bytes)) × (length (now bytes) ≤ at + 64) ⌝ }
+    requires { ⌜ length (now bytes) ≤ at + 64 ⌝ }
     ensures { λ r. ⌜ r ≡ tab 64 (λ (k : ℕ). getD (now (bytes .entry)) (at + k) 0) ⌝ }
 {
-    let n = bytes.len() - at;
     let mut b = [0u8; 64];
-    for k in 0..n {
-        b[k] = bytes[at + k];
+    for k in at..bytes.len() {
+        b[k - at] = bytes[k];
     }
     b
 }
 
-// In which byte of the block that begins with bit `from` of the message the record ends.
-fn end_place(bits: u64, from: u64) -> usize
-    requires { ⌜ (from ≤ bits) × (bits < from + 512) ⌝ }
-    ensures { λ r. ⌜ r ≡ (bits - from) / 8 ⌝ }
+// In which byte of the block that begins with byte `at` of the message the record ends.
+fn end_place(bits: u64, at: usize) -> usize
+    requires { ⌜ at ≤ bits / 8 ⌝ }
+    ensures { λ r. ⌜ r ≡ bits / 8 - at ⌝ }
 {
-    ((bits - from) / 8) as usize
+    (bits / 8) as usize - at
 }
 
 // The byte in which a record ends: its first `used` bits are the record's, then come the bit 1 and zeros.
 fn cut_byte(x: u8, used: u64) -> u8
     requires { ⌜ used < 8 ⌝ }
-    ensures { λ r. ⌜ r ≡ x / 2 ^ (8 - used) * 2 ^ (8 - used) + 2 ^ (7 - used) ⌝ }
+    ensures { λ r. ⌜ r ≡ cutByte used x ⌝ }
 {
-    let spare = 8 - used;
-    let kept = wide(x) >> spare << spare;
-    (kept + (1 << (7 - used))) as u8
+    let zeros = 7 - used;
+    (((wide(x) >> zeros) / 2 * 2 + 1) << zeros) as u8
+}
+
+// Block i of the message, one that the record does not fill, up to the bit length: the end of the record, the bit 1, zeros.
+fn ended(bits: u64, bytes: &[u8], i: usize) -> [u8; 64]
+    requires { ⌜ (bits ≤ mostBits) × (length (now bytes) ≡ packedLength bits) × (i < blocks bits) × (bits < 512 * i + 512) ⌝ }
+    ensures { λ r. ⌜ r ≡ tab 64 (λ (k : ℕ). endedByte bits (now (bytes .entry)) (64 * i + k)) ⌝ }
+{
+    let at = 64 * i;
+    let mut b = tail(bytes, at);
+    if ((bits / 8) as usize) < at {
+        return b;
+    }
+    let end = end_place(bits, at);
+    b[end] = cut_byte(b[end], bits % 8);
+    b
 }
 
 // A block with the bit length of a record in its last two bytes: it is too small for the six before them.
@@ -67,20 +81,13 @@ fn with_length(b: [u8; 64], bits: u64) -> [u8; 64]
     r
 }
 
-// Block i of the message, one that the record does not fill, as bytes: the end of the record, the bit 1, zeros and in
-// the last block the bit length.
+// Block i of the message, one that the record does not fill, as bytes, in the last block with the bit length.
 fn padded(bits: u64, bytes: &[u8], i: usize) -> [u8; 64]
     requires { ⌜ (bits ≤ mostBits) × (length (now bytes) ≡ packedLength bits) × (i < blocks bits) × (bits < 512 * i + 512) ⌝ }
     ensures { λ r. ⌜ ((k : ℕ) → k < 512 → bitOfBytes r k ≡ blockBits (message bits (bitOfBytes (now (bytes .entry)))) i k) ⌝ }
 {
-    let from = 512 * i as u64;
-    if bits < from {
-        return with_length([0u8; 64], bits);
-    }
-    let mut b = tail(bytes, 64 * i);
-    let end = end_place(bits, from);
-    b[end] = cut_byte(b[end], bits % 8);
-    if bits + 65 <= from + 512 {
+    let b = ended(bits, bytes, i);
+    if ((bits / 8) as usize) < 64 * i + 56 {
         return with_length(b, bits);
     }
     b
@@ -91,8 +98,9 @@ pub fn message_words(bits: u64, bytes: &[u8], i: usize) -> [u32; 68]
     requires { ⌜ (bits ≤ mostBits) × (length (now bytes) ≡ packedLength bits) × (i < blocks bits) ⌝ }
     ensures { λ r. ⌜ (length r ≡ 68) × (take 16 r ≡ expansion (blockBits (message bits (bitOfBytes (now (bytes .entry)))) i) 16) ⌝ }
 {
-    if 512 * i as u64 + 512 <= bits {
-        return block_words(bytes, 64 * i);
+    let at = 64 * i;
+    if at + 64 <= (bits / 8) as usize {
+        return block_words(bytes, at);
     }
     let b = padded(bits, bytes, i);
     block_words(&b, 0)

@@ -2,7 +2,7 @@
 -- the last block with the bit length in the last two bytes, since the six before them are 0. Each byte is the message's.
 use mathlib.Core.List.{List}
 use mathlib.Core.Path.{_≡_, refl, sym, ap, ap₂, subst, _∙_}
-use Prim.Native.Nat.{ℕ, suc, _+_, _-_, _*_, _/_, _%_, _^_, _≤_, _<_}
+use Prim.Native.Nat.{ℕ, _+_, _-_, _*_, _/_, _%_, _^_, _≤_, _<_}
 use native.Mathlib.Decide.{ℕ-discrete, decLt}
 use native.Mathlib.Nat.{div-eq-of-lt}
 use native.Mathlib.Omega.{arith}
@@ -10,10 +10,11 @@ use borrow.Author.Tests.{eq-eqb, ne-eqb}
 use lib.ListN.{length, getD, set, List·getD-eq-default}
 use lib.Pow.{pow-mono}
 use Rattle.encoding.proofs.Filling.{set-tab, wrote}
-use Rattle.encoding.proofs.Tab.{getD-tab}
+use Rattle.encoding.proofs.Tab.{getD-tab, tab-congruent}
 use Rattle.encoding.specs.Packed.{packedLength}
 use Rattle.encoding.specs.Sequence.{tab}
-use Rattle.sm3.proofs.message.Padding.{IsByte, cutAfter, in-record, length-byte, past-record, record-end}
+use Rattle.sm3.proofs.message.Padding.{IsByte, cut-byte, cutAfter, in-record, length-byte, past-record, record-end}
+use Rattle.sm3.specs.Ended.{cutByte, endedByte}
 use Rattle.sm3.specs.Message.{blocks, mostBits}
 
 -- of the bytes of a bit length, counted from the last, all but two are 0
@@ -30,62 +31,52 @@ module _ (n : ℕ) (bytes : List ℕ) (i : ℕ) where
     pub before-length : (x : ℕ) → 8 * (64 * i + x) + 8 ≤ 512 * blocks n - 64 → IsByte n bytes (64 * i + x) (f x)
     pub past : (x : ℕ) → n < 8 * (64 * i + x) → f x ≡ 0
 
-  -- a block past the record
-  pub zeros-laid : n < 512 * i → Laid (λ x. 0)
-  zeros-laid h =
-      record { before-length = λ x l. past-record n bytes (64 * i + x) (omega arith) l; past = λ x l. refl }
-
-  -- The block in which the record ends.
-  abbrev recordByte : ℕ → ℕ
-  recordByte x = getD bytes (64 * i + x) 0
-
-  abbrev end : ℕ
-  end = (n - 512 * i) / 8
-
-  abbrev endedByte : ℕ
-  endedByte = cutAfter (7 - n % 8) (recordByte end)
-
   abbrev pub endedBytes : ℕ → ℕ
-  endedBytes = wrote recordByte end endedByte
+  endedBytes x = endedByte n bytes (64 * i + x)
 
-  module _ (from : 512 * i ≤ n) where
-    at-end : (x : ℕ) → x ≡ end → endedBytes x ≡ cutAfter (7 - n % 8) (recordByte x)
-    at-end x e = simp (eq-eqb x end e) (ap (λ k. cutAfter (7 - n % 8) (recordByte k)) (sym e))
+  elsewhere : (x : ℕ) → (64 * i + x ≡ n / 8 → ⊥) → endedBytes x ≡ getD bytes (64 * i + x) 0
+  elsewhere x d = simp (ne-eqb (64 * i + x) (n / 8) d)
 
-    elsewhere : (x : ℕ) → (x ≡ end → ⊥) → endedBytes x ≡ recordByte x
-    elsewhere x d = simp (ne-eqb x end d)
+  module _ (size : length bytes ≡ packedLength n) where
+    past-end : (x : ℕ) → n / 8 < 64 * i + x → endedBytes x ≡ 0
+    past-end x l = elsewhere x (omega arith) ∙ List·getD-eq-default bytes 0 (omega arith)
 
-    module _ (size : length bytes ≡ packedLength n) where
-      past-end : (x : ℕ) → end < x → endedBytes x ≡ 0
-      past-end x l = elsewhere x (omega arith) ∙ List·getD-eq-default bytes 0 (omega arith)
+    pub ended-laid : Laid endedBytes
+    ended-laid =
+        record {
+          before-length = λ x l. by x l (ℕ-discrete (64 * i + x) (n / 8)) (decLt (64 * i + x) (n / 8));
+          past = λ x l. past-end x (omega arith);
+        }
+      where
+        by : (x : ℕ) → 8 * (64 * i + x) + 8 ≤ 512 * blocks n - 64 → Dec (64 * i + x ≡ n / 8) → Dec (64 * i + x < n / 8)
+            → IsByte n bytes (64 * i + x) (endedBytes x)
+        by x l (yes e) d =
+            let cut : endedBytes x ≡ cutAfter (7 - n % 8) (getD bytes (64 * i + x) 0) =
+            simp (eq-eqb (64 * i + x) (n / 8) e) (cut-byte (n % 8) (getD bytes (64 * i + x) 0) (omega arith)) in
+            subst (IsByte n bytes (64 * i + x)) (sym cut) (record-end n bytes (64 * i + x) (7 - n % 8) e refl)
+        by x l (no e) (yes d) =
+            subst (IsByte n bytes (64 * i + x)) (sym (elsewhere x e)) (in-record n bytes (64 * i + x) (omega arith))
+        by x l (no e) (no d) =
+            subst (IsByte n bytes (64 * i + x)) (sym (past-end x (omega arith))) (past-record n bytes (64 * i + x) (omega arith) l)
 
-      pub end-laid : Laid endedBytes
-      end-laid =
-          record {
-            before-length = λ x l. by x l (ℕ-discrete x end) (decLt x end);
-            past = λ x l. past-end x (omega arith);
-          }
-        where
-          by : (x : ℕ) → 8 * (64 * i + x) + 8 ≤ 512 * blocks n - 64 → Dec (x ≡ end) → Dec (x < end)
-              → IsByte n bytes (64 * i + x) (endedBytes x)
-          by x l (yes e) d =
-              subst (IsByte n bytes (64 * i + x)) (sym (at-end x e))
-              (record-end n bytes (64 * i + x) (7 - n % 8) (omega arith) refl)
-          by x l (no e) (yes d) =
-              subst (IsByte n bytes (64 * i + x)) (sym (elsewhere x e)) (in-record n bytes (64 * i + x) (omega arith))
-          by x l (no e) (no d) =
-              subst (IsByte n bytes (64 * i + x)) (sym (past-end x (omega arith))) (past-record n bytes (64 * i + x) (omega arith) l)
+  -- a block past the record
+  pub past-ended : n < 512 * i → tab 64 (λ x. getD bytes (64 * i + x) 0) ≡ tab 64 endedBytes
+  past-ended h = tab-congruent 64 _ _ (λ x l. sym (elsewhere x (omega arith)))
 
-  pub end-cut : n < 512 * i + 512 → (t : List ℕ) → t ≡ tab 64 recordByte → (k y : ℕ) → k ≡ end
-      → y ≡ getD t k 0 / 2 ^ (8 - n % 8) * 2 ^ (8 - n % 8) + 2 ^ (7 - n % 8) → set t k y ≡ tab 64 endedBytes
-  end-cut l t e k y at cut =
-      let places : 8 - n % 8 ≡ suc (7 - n % 8) = omega arith in
-      let byte : getD t k 0 ≡ recordByte end =
-      ap₂ (λ (u : List ℕ) (x : ℕ). getD u x 0) e at ∙ getD-tab 64 recordByte end 0 (omega arith) in
-      let is : y ≡ endedByte = cut ∙ ap₂ (λ x m. x / 2 ^ m * 2 ^ m + 2 ^ (7 - n % 8)) byte places in
-      ap (λ (x : ℕ). set t x y) at
-      ∙ ap₂ (λ (u : List ℕ) (v : ℕ). set u end v) e is
-      ∙ set-tab 64 recordByte end endedByte (omega arith)
+  -- the block in which the record ends
+  pub end-cut : 512 * i ≤ n → n < 512 * i + 512 → (t : List ℕ) → t ≡ tab 64 (λ x. getD bytes (64 * i + x) 0)
+      → (k y : ℕ) → k ≡ n / 8 - 64 * i → y ≡ cutByte (n % 8) (getD t k 0) → set t k y ≡ tab 64 endedBytes
+  end-cut from l t e k y at cut =
+      let byte : getD t k 0 ≡ getD bytes (64 * i + k) 0 =
+      ap (λ (u : List ℕ). getD u k 0) e ∙ getD-tab 64 (λ x. getD bytes (64 * i + x) 0) k 0 (omega arith) in
+      ap₂ (λ (u : List ℕ) (v : ℕ). set u k v) e (cut ∙ ap (cutByte (n % 8)) byte)
+      ∙ set-tab 64 (λ x. getD bytes (64 * i + x) 0) k (cutByte (n % 8) (getD bytes (64 * i + k) 0)) (omega arith)
+      ∙ tab-congruent 64 _ _ (λ x b. by x (ℕ-discrete x k))
+    where
+      by : (x : ℕ) → Dec (x ≡ k) → wrote (λ x. getD bytes (64 * i + x) 0) k (cutByte (n % 8) (getD bytes (64 * i + k) 0)) x ≡ endedBytes x
+      by x (yes d) =
+          simp (eq-eqb x k d, eq-eqb (64 * i + x) (n / 8) (omega arith)) (ap (λ j. cutByte (n % 8) (getD bytes (64 * i + j) 0)) (sym d))
+      by x (no d) = simp (ne-eqb x k d, ne-eqb (64 * i + x) (n / 8) (omega arith))
 
   -- What is laid is a block of the message.
   module _ (f : ℕ → ℕ) (laid : Laid f) where

@@ -16,6 +16,7 @@ use Rattle.encoding.proofs.Tab.{getD-tab}
 use Rattle.encoding.specs.Bits.{bitOfBytes}
 use Rattle.encoding.specs.Sequence.{tab}
 use Rattle.sm3.proofs.message.MessageBits.{message-content, message-length, message-one, message-zero}
+use Rattle.sm3.specs.Ended.{cutByte}
 use Rattle.sm3.specs.Message.{blockBits, blocks, message}
 
 -- a bit of a number's byte is a bit of the number
@@ -31,33 +32,38 @@ byte-of-number n m s h =
 
 -- the byte y with its first bits, then the bit 1 and m zeros
 abbrev pub cutAfter : ℕ → ℕ → ℕ
-cutAfter m y = y / 2 ^ suc m * 2 ^ suc m + 2 ^ m
+cutAfter m y = (y / 2 ^ suc m * 2 + 1) * 2 ^ m
 
--- .. is a byte, where m zeros, the bit 1 and u bits before it are eight
+-- .. where m zeros, the bit 1 and u bits before it are eight
+pub cut-byte : (u y : ℕ) → u < 8 → cutByte u y ≡ cutAfter (7 - u) y
+cut-byte u y l =
+    let places : 8 - u ≡ suc (7 - u) = omega arith in
+    ap (λ k. (y / 2 ^ k * 2 + 1) * 2 ^ (7 - u)) places
+
+-- .. is the first bits in their place, and the bit 1 below them
+as-sum : (m y : ℕ) → cutAfter m y ≡ y / 2 ^ suc m * 2 ^ suc m + 2 ^ m
+as-sum m y =
+    let a : ℕ = y / 2 ^ suc m in
+    let power : a * 2 ^ suc m ≡ a * 2 ^ m * 2 = ap (λ t. a * t) (pow-suc 2 m) ∙ sym (mul-assoc a (2 ^ m) 2) in
+    omega arith
+
 pub cut-lt : (u m y : ℕ) → u + suc m ≡ 8 → y < 256 → cutAfter m y < 256
 cut-lt u m y e l =
     let whole : 2 ^ u * 2 ^ suc m ≡ 256 = sym (pow-add 2 u (suc m)) ∙ ap (λ t. 2 ^ t) e in
     let first : y / 2 ^ suc m < 2 ^ u = shr-lt u (suc m) (subst (λ t. y < 2 ^ t) (sym e) l) in
-    subst (λ t. cutAfter m y < t) whole (digits-lt first (pow-lt (omega arith)))
+    subst (λ t. t < 256) (sym (as-sum m y))
+    (subst (λ t. y / 2 ^ suc m * 2 ^ suc m + 2 ^ m < t) whole (digits-lt first (pow-lt (omega arith))))
 
-module _ (m y : ℕ) where
-  cut-as-product : cutAfter m y ≡ (y / 2 ^ suc m * 2 + 1) * 2 ^ m
-  cut-as-product =
-      let a : ℕ = y / 2 ^ suc m in
-      let b : ℕ = 2 ^ m in
-      let power : a * 2 ^ suc m ≡ a * b * 2 = ap (λ t. a * t) (pow-suc 2 m) ∙ sym (mul-assoc a b 2) in
-      omega arith
+-- the bits before the bit 1, that bit, and the zeros
+cut-kept : (m y d : ℕ) → cutAfter m y / 2 ^ (suc m + d) % 2 ≡ y / 2 ^ (suc m + d) % 2
+cut-kept m y d =
+    ap (λ t. t % 2)
+    (sym (shr-shr (cutAfter m y) (suc m) d)
+    ∙ ap (λ t. t / 2 ^ d) (ap (λ t. t / 2 ^ suc m) (as-sum m y) ∙ high (y / 2 ^ suc m) (suc m) (pow-lt (omega arith)))
+    ∙ shr-shr y (suc m) d)
 
-  -- the bits before the bit 1, that bit, and the zeros
-  cut-kept : (d : ℕ) → cutAfter m y / 2 ^ (suc m + d) % 2 ≡ y / 2 ^ (suc m + d) % 2
-  cut-kept d =
-      ap (λ t. t % 2)
-      (sym (shr-shr (cutAfter m y) (suc m) d)
-      ∙ ap (λ t. t / 2 ^ d) (high (y / 2 ^ suc m) (suc m) (pow-lt (omega arith)))
-      ∙ shr-shr y (suc m) d)
-
-  cut-one : cutAfter m y / 2 ^ m % 2 ≡ 1
-  cut-one = ap (λ t. t / 2 ^ m % 2) cut-as-product ∙ ap (λ t. t % 2) (shl-shr (y / 2 ^ suc m * 2 + 1) m) ∙ omega arith
+cut-one : (m y : ℕ) → cutAfter m y / 2 ^ m % 2 ≡ 1
+cut-one m y = ap (λ t. t % 2) (shl-shr (y / 2 ^ suc m * 2 + 1) m) ∙ omega arith
 
 cut-zero : (s d y : ℕ) → cutAfter (suc d + s) y / 2 ^ s % 2 ≡ 0
 cut-zero s d y =
@@ -65,9 +71,7 @@ cut-zero s d y =
     let product : a * 2 ^ (suc d + s) ≡ a * 2 ^ suc d * 2 ^ s =
     ap (λ t. a * t) (pow-add 2 (suc d) s) ∙ sym (mul-assoc a (2 ^ suc d) (2 ^ s)) in
     let even : a * 2 ^ suc d ≡ a * 2 ^ d * 2 = ap (λ t. a * t) (pow-suc 2 d) ∙ sym (mul-assoc a (2 ^ d) 2) in
-    ap (λ t. t / 2 ^ s % 2) (cut-as-product (suc d + s) y ∙ product)
-    ∙ ap (λ t. t % 2) (shl-shr (a * 2 ^ suc d) s)
-    ∙ omega (arith, even)
+    ap (λ t. t / 2 ^ s % 2) product ∙ ap (λ t. t % 2) (shl-shr (a * 2 ^ suc d) s) ∙ omega (arith, even)
 
 module _ (n : ℕ) (bytes : List ℕ) where
   -- y is byte x of the message

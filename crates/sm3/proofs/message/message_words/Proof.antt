@@ -11,16 +11,13 @@ use Rattle.sm3.proofs.message.message_words.Statement.{statement}
 use Rattle.sm3.proofs.message.message_words.Tie as tie
 use Rattle.encoding.specs.Bits.{bitOfBytes}
 
-mul-if1 : tie.Need-mul-if1
+mul-at : tie.Need-mul-at
 unfolding blocks
-mul-if1 c = omega arith
+mul-at c = omega arith
 
 add-if1 : tie.Need-add-if1
 unfolding blocks
 add-if1 c = omega arith
-
-mul-block-words : tie.Need-mul-block-words
-mul-block-words c = search needs
 
 block-words-requires : tie.Need-block-words-requires
 block-words-requires c κs = search needs
@@ -53,9 +50,8 @@ pub message-words-spec : {M : Type 1} → statement M
 message-words-spec =
     tie.close
     (tie.spec
-    mul-if1
+    mul-at
     add-if1
-    mul-block-words
     block-words-requires
     returns
     padded-requires
