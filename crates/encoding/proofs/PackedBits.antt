@@ -37,22 +37,22 @@ module _ (n : ℕ) (s : ℕ → ℕ) (bits : (w : ℕ) → w < n → s w < 2) wh
   unfolding packedBytes
   bit-of-packed = bit-of-bits (packedLength n) _ (λ k l. all-bits k)
 
-  pub wire-of-packed : (w : ℕ) → w < n → bitOfBytes (packedBytes n s) w ≡ s w
-  wire-of-packed w l = bit-of-packed w (omega arith) ∙ beside-first n s (λ k. 0) w l
+  pub packed-bit : (w : ℕ) → w < n → bitOfBytes (packedBytes n s) w ≡ s w
+  packed-bit w l = bit-of-packed w (omega arith) ∙ beside-first n s (λ k. 0) w l
 
   pub spare-of-packed : spareBits n (packedBytes n s) ≡ 0
   unfolding spareBits
   spare-of-packed =
       number-zero (8 * packedLength n - n) _ (λ i l. bit-of-packed (n + i) (omega arith) ∙ beside-then n s (λ k. 0) i)
 
-  -- bytes with these wires and no spare bit set
+  -- bytes with these bits and no spare bit set
   pub packed-known : (p : List ℕ) → Bytes p → length p ≡ packedLength n → spareBits n p ≡ 0
       → ((w : ℕ) → w < n → bitOfBytes p w ≡ s w) → packedBytes n s ≡ p
   unfolding spareBits
   packed-known p bytes long spare same =
       bytes-ext (packedBytes n s) p (length-packed n s ∙ sym long) packed-bytes bytes
       (λ k l.
-      by-cases (decLt k n) (λ below. wire-of-packed k below ∙ sym (same k below))
+      by-cases (decLt k n) (λ below. packed-bit k below ∙ sym (same k below))
       (λ past.
       let place : n + (k - n) ≡ k = omega arith in
       let inside : k < 8 * packedLength n = omega (arith, length-packed n s) in

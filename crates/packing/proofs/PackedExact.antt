@@ -8,7 +8,7 @@ use lib.ListN.{length}
 use Rattle.assignment.proofs.Entries.{entries-bytes}
 use Rattle.circuit.specs.Wires.{wireCount}
 use Rattle.encoding.proofs.Bits.{bit-of-bytes-lt}
-use Rattle.encoding.proofs.PackedBits.{length-packed, packed-known, spare-of-packed, wire-of-packed}
+use Rattle.encoding.proofs.PackedBits.{length-packed, packed-bit, packed-known, spare-of-packed}
 use Rattle.encoding.specs.Bits.{bitOfBytes}
 use Rattle.encoding.specs.Bytes.{Bytes}
 use Rattle.encoding.specs.Packed.{packedBytes, spareBits}
@@ -64,7 +64,7 @@ module _ (n : ℕ) (d p : List ℕ) (range : n ≤ mostBits) (digest : length d 
         let r = found .0 in
         let is = found .3 in
         let same : (w : ℕ) → w < wires → bitOfBytes p w ≡ wiresOf n r w =
-        λ w l. ap (λ b. bitOfBytes b w) is ∙ wire-of-packed wires (wiresOf n r) (wires-bits n r) w l in
+        λ w l. ap (λ b. bitOfBytes b w) is ∙ packed-bit wires (wiresOf n r) (wires-bits n r) w l in
         check-done n d p .1 (
           range,
           (

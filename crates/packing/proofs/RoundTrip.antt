@@ -12,7 +12,7 @@ use Rattle.assignment.proofs.Writes.{entries-congruent}
 use Rattle.assignment.specs.Assignment.{entry, entryBytes}
 use Rattle.circuit.specs.Wires.{wireCount}
 use Rattle.encoding.proofs.Bits.{bit-of-bytes-lt}
-use Rattle.encoding.proofs.PackedBits.{length-packed, packed-known, spare-of-packed, wire-of-packed}
+use Rattle.encoding.proofs.PackedBits.{length-packed, packed-bit, packed-known, spare-of-packed}
 use Rattle.encoding.specs.Bits.{bitOfBytes}
 use Rattle.encoding.specs.Bytes.{Bytes}
 use Rattle.encoding.specs.Packed.{packedBytes, packedLength}
@@ -48,7 +48,7 @@ length-unpacked wires q = length-entries wires (bitOfBytes q)
 -- unpacked, packed bytes give the values that were packed
 unpacked-packed : (wires : ℕ) (s : ℕ → ℕ) → ((w : ℕ) → w < wires → s w < 2) → unpackedBytes wires (packedBytes wires s) ≡ entryBytes wires s
 unfolding unpackedBytes
-unpacked-packed wires s bits = entries-congruent wires _ s (wire-of-packed wires s bits)
+unpacked-packed wires s bits = entries-congruent wires _ s (packed-bit wires s bits)
 
 -- the check of entries that are written modulo p
 check-same : (n : ℕ) (d a b : List ℕ) → length a ≡ length b → entry a ≡ entry b → checkAnswer n d a ≡ checkAnswer n d b

@@ -15,7 +15,7 @@ use Rattle.circuit.specs.Circuit.{rowAt}
 use Rattle.circuit.specs.Wires.{wireCount}
 use Rattle.encoding.proofs.Bits.{bit-of-bytes-lt}
 use Rattle.encoding.proofs.ByteBits.{bytes-ext}
-use Rattle.encoding.proofs.PackedBits.{length-packed, packed-bytes, spare-of-packed, wire-of-packed}
+use Rattle.encoding.proofs.PackedBits.{length-packed, packed-bit, packed-bytes, spare-of-packed}
 use Rattle.encoding.specs.Bits.{bitOfBytes}
 use Rattle.encoding.specs.Bytes.{Bytes}
 use Rattle.encoding.specs.Packed.{packedBytes}
@@ -90,7 +90,7 @@ module _ (n : ℕ) (d a : List ℕ) (accepted : IsAccepted n d a) where
   read-wires : HasWires n readRecord a
   read-wires w l =
       let same : wireOf n (bitOfBytes readRecord) ≡ wireOf n readBits =
-      wires-congruent n _ _ (wire-of-packed n readBits bits-read) in
+      wires-congruent n _ _ (packed-bit n readBits bits-read) in
       accepted-wires w l ∙ ap (λ s. s w) (sym same)
 
   accepted-record : Bytes d → (r : List ℕ) × IsRecord n r × (digestBytes n r ≡ d) × HasWires n r a

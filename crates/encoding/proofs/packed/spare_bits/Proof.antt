@@ -1,6 +1,6 @@
 -- Bits that fill their last byte leave none; else the spare ones are that byte modulo a power of two.
-use mathlib.Core.Path.{_∙_, ap₂, sym}
-use Prim.Native.Nat.{_-_, _%_}
+use mathlib.Core.Path.{_∙_, ap₂, subst, sym}
+use Prim.Native.Nat.{_-_, _%_, _<_}
 use native.Mathlib.Omega.{arith}
 use borrow.Author.Needs.{needs}
 use lib.Pow.{pow-pos}
@@ -25,9 +25,7 @@ shl-result : tie.Need-shl-result
 shl-result c = search needs
 
 rem-result : tie.Need-rem-result
-rem-result c =
-    let n = c .before .before .before .before .args .n in
-    omega (arith, one-shifted (8 - n % 8) (omega arith), pow-pos (8 - n % 8))
+rem-result c = subst (λ m. 0 < m) (sym (one-shifted _ (omega arith))) (pow-pos _)
 
 returns-2 : tie.Need-returns-2
 returns-2 c =
