@@ -9,7 +9,7 @@ use Rattle.encoding.specs.Sequence.{beside}
 abbrev pub packedLength : ℕ → ℕ
 packedLength n = (n + 7) / 8
 
--- "spare low bits zero": the packed bytes of n bits with the values s
+-- "spare low bits zero": the packed bytes of n bits with the values s, which are 0 and 1
 unfoldable pub packedBytes : ℕ → (ℕ → ℕ) → List ℕ
 packedBytes n s = bytesOfBits (packedLength n) (beside n s (λ k. 0))
 

@@ -1,8 +1,8 @@
 // Compares what the operations give with figures from outside, held against the file `stdout`: a line of hexadecimal
 // digits for each digest, then document 01's rows that are not proved.
 //
-// The first two lines are the standard's own examples: "abc", and "abcd" 16 times. The others are records of whose bytes byte k
-// is k mod 251 (the crate `sample`). Of 0, 55, 56, 63, 64, 119, 120 and 1,015 bytes, lengths in bits 0 to 8,120, the digests are
+// The first two lines are the standard's own examples: "abc", and "abcd" 16 times. The others are records whose byte k is k mod
+// 251 (the crate `sample`). Of 0, 55, 56, 63, 64, 119, 120 and 1,015 bytes, lengths in bits 0 to 8,120, the digests are
 // OpenSSL 3.0's:
 //     python3 -c 'import sys; sys.stdout.buffer.write(bytes(k % 251 for k in range(L)))' | openssl dgst -sm3
 // OpenSSL hashes whole bytes. Of 1, 5, 447, 449, 505, 511, 959, 961 and 8,127 bits the digests are the judge's (tests/judge), an
