@@ -5,7 +5,7 @@ use Prim.Native.Nat.{ℕ}
 use Rattle.refusal.specs.declared.outcome.Outcome.{Outcome}
 use Rattle.refusal.specs.declared.outcome.Outcome.the-variants.{Done, Refused}
 use Rattle.refusal.specs.declared.outcome.Refusal.{Refusal}
-use Rattle.refusal.specs.declared.outcome.Refusal.the-variants.{LengthAboveLimit, RowOutOfRange, BufferTooShort, DigestNot32, WrongLength, WireZero, DigestWire, Unsatisfied, EntryNotBit, WrongPackedLength, SpareBit, WrongRecordLength, BitAfterRecord}
+use Rattle.refusal.specs.declared.outcome.Refusal.the-variants.{LengthAboveLimit, RowOutOfRange, BufferTooShort, DigestNot32, WrongLength, WireZero, DigestWire, Unsatisfied, EntryNotBit, WrongPackedLength, SpareBit, WrongRecordLength, BitAfterRecord, LineNot63, WrongByte, LaneOrAxlesTooLow}
 
 abbrev pub refusalNumber : Refusal → ℕ
 -- "2. The record length is above" the limit, from document 02's request 2 on 8,127 bits
@@ -34,6 +34,12 @@ refusalNumber SpareBit = 12
 refusalNumber WrongRecordLength = 13
 -- "14, a bit after the last record bit is set"
 refusalNumber BitAfterRecord = 14
+-- document 02, request 3: "15, not 63 bytes"
+refusalNumber LineNot63 = 15
+-- "16, a byte, or in writing a field's value, that its place does not allow"
+refusalNumber (WrongByte b) = 16
+-- "17, lane 000 or axles below 02"
+refusalNumber LaneOrAxlesTooLow = 17
 
 abbrev pub refusalValues : Refusal → List ℕ
 refusalValues LengthAboveLimit = []
@@ -51,6 +57,10 @@ refusalValues WrongPackedLength = []
 refusalValues SpareBit = []
 refusalValues WrongRecordLength = []
 refusalValues BitAfterRecord = []
+refusalValues LineNot63 = []
+-- "lowest byte returned, from 0"
+refusalValues (WrongByte b) = b .0 ∷ []
+refusalValues LaneOrAxlesTooLow = []
 
 -- the answer of an operation that hands nothing back: 0 for no refusal
 abbrev pub outcomeNumber : Outcome → ℕ

@@ -1,4 +1,4 @@
-// The refusals that several operations share, with the numbers of rows and wires that they name.
+// The refusals that several operations share, with the numbers of rows, wires and bytes that they name.
 pub mod numbers;
 pub mod outcome;
 pub mod packing;

@@ -2,6 +2,7 @@
 ghost use mathlib.Core.Path.{_≡_};
 ghost use Prim.Native.Nat.{_<_};
 ghost use Rattle.refusal.specs.Refusals.{refusalNumber};
+use crate::numbers::ByteNumber;
 use crate::numbers::RowNumber;
 use crate::numbers::WireNumber;
 
@@ -33,6 +34,12 @@ pub enum Refusal {
     WrongRecordLength,
     // 14: a bit after the last record bit is set.
     BitAfterRecord,
+    // 15: a passage line is not 63 bytes.
+    LineNot63,
+    // 16: the lowest byte of a passage line that its place does not allow.
+    WrongByte(ByteNumber),
+    // 17: lane 0 or fewer than 2 axles.
+    LaneOrAxlesTooLow,
 }
 
 // The answer of an operation that hands nothing back: it is done, or it is refused and no lent byte is altered.
@@ -59,5 +66,8 @@ pub fn number_of(refusal: Refusal) -> u64
         Refusal::SpareBit => 12,
         Refusal::WrongRecordLength => 13,
         Refusal::BitAfterRecord => 14,
+        Refusal::LineNot63 => 15,
+        Refusal::WrongByte(_) => 16,
+        Refusal::LaneOrAxlesTooLow => 17,
     }
 }

@@ -25,6 +25,9 @@ fn value_of(refusal: Refusal) -> u64
         Refusal::SpareBit => 0,
         Refusal::WrongRecordLength => 0,
         Refusal::BitAfterRecord => 0,
+        Refusal::LineNot63 => 0,
+        Refusal::WrongByte(byte) => byte.0,
+        Refusal::LaneOrAxlesTooLow => 0,
     }
 }
 

@@ -1,4 +1,4 @@
--- Each arm is told which refusal it is at; two of them have a value.
+-- Each arm is told which refusal it is at; three of them have a value.
 use mathlib.Core.Path.{ap}
 use native.Mathlib.Omega.{arith}
 use borrow.Author.Needs.{needs}
@@ -46,6 +46,15 @@ enum-told-10 c = search needs
 enum-told-11 : tie.Need-enum-told-11
 enum-told-11 c = search needs
 
+enum-told-12 : tie.Need-enum-told-12
+enum-told-12 c = search needs
+
+enum-known-refusal-3 : tie.Need-enum-known-refusal-3
+enum-known-refusal-3 c = search needs
+
+enum-told-13 : tie.Need-enum-told-13
+enum-told-13 c = search needs
+
 returns : tie.Need-returns
 returns c = search needs
 
@@ -85,6 +94,15 @@ returns-12 c = search needs
 returns-13 : tie.Need-returns-13
 returns-13 c = search needs
 
+returns-14 : tie.Need-returns-14
+returns-14 c = search needs
+
+returns-15 : tie.Need-returns-15
+returns-15 c = omega (arith, ap (λ r. above (refusalValues r)) (c .before .refusal3 .given .1))
+
+returns-16 : tie.Need-returns-16
+returns-16 c = search needs
+
 pub value-of-spec : {M : Type 1} → statement M
 value-of-spec =
     tie.close
@@ -102,6 +120,9 @@ value-of-spec =
     enum-told-9
     enum-told-10
     enum-told-11
+    enum-told-12
+    enum-known-refusal-3
+    enum-told-13
     returns
     returns-2
     returns-3
@@ -114,4 +135,7 @@ value-of-spec =
     returns-10
     returns-11
     returns-12
-    returns-13)
+    returns-13
+    returns-14
+    returns-15
+    returns-16)
