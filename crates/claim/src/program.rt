@@ -4,11 +4,11 @@ ghost use mathlib.Core.Path.{_≡_};
 ghost use lib.ListN.{length};
 use crate::answer::answer_to;
 use crate::answer::put_answer;
+use console::Input;
+use console::print;
+use console::read_input;
+use console::say_unread;
 use record::space::assignment_space;
-use text::console::Input;
-use text::console::print;
-use text::console::read_input;
-use text::console::say_unread;
 
 // One byte more than the longest right input has: a line of 75 bytes and 45,121 packed bytes.
 const INPUT_ROOM: usize = 45197;

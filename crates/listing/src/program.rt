@@ -4,11 +4,11 @@ use crate::progress::Listing;
 use crate::progress::begin;
 use crate::progress::more;
 use crate::progress::next_chunk;
+use console::Input;
+use console::print;
+use console::read_input;
+use console::say_unread;
 use forms::terms::TERM_ROOM;
-use text::console::Input;
-use text::console::print;
-use text::console::read_input;
-use text::console::say_unread;
 
 // Prints what a line asks for, chunk after chunk.
 pub fn print_listing(listing: Listing, line: &[u8]) {

@@ -6,6 +6,7 @@ use Prim.Native.Nat.{ℕ, _+_, _-_, _*_, _≤_, _<_}
 use native.Mathlib.Decide.{ℕ-discrete}
 use borrow.Author.Tests.{eq-eqb, ne-eqb, le-leb, leb-true, lt-ltb, ltb-true}
 use lib.Dec.{eqb, leb, ltb}
+use Rattle.text.specs.Decimal.{isDigit}
 use Rattle.text.specs.Field.{continues, fieldFrom}
 use Rattle.text.specs.declared.field.Field.the-variants.{Number, Wrong}
 
@@ -41,7 +42,7 @@ pub record NextDigit (v n c : ℕ) : Type 0 where
   pub lead : (n ≡ 0 → ⊥) → 0 < v
 
 pub next-digit : (v n c : ℕ) → continues v n c ≡ true → NextDigit v n c
-unfolding continues
+unfolding continues isDigit
 next-digit v n c e =
     let whole = and-eq-true-iff (leb 48 c && leb c 57 && ltb v 100000000) (eqb n 0 || ltb 0 v) .0 e in
     let front = and-eq-true-iff (leb 48 c && leb c 57) (ltb v 100000000) .0 (whole .0) in
@@ -54,7 +55,7 @@ next-digit v n c e =
     }
 
 pub is-next : (v n c : ℕ) → NextDigit v n c → continues v n c ≡ true
-unfolding continues
+unfolding continues isDigit
 is-next v n c next = by (ℕ-discrete n 0)
   where
     by : Dec (n ≡ 0) → continues v n c ≡ true

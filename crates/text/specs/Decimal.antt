@@ -1,8 +1,12 @@
 -- Numbers in decimal (document 01, "What `rows` prints": "all numbers decimal").
-use mathlib.Core.Bool.{cond}
+use mathlib.Core.Bool.{Bool, cond, _&&_}
 use mathlib.Core.List.{List, [], _∷_, _++_}
 use Prim.Native.Nat.{ℕ, zero, suc, _+_, _/_, _%_}
-use lib.Dec.{ltb}
+use lib.Dec.{leb, ltb}
+
+-- whether c is a digit in ASCII
+unfoldable pub isDigit : ℕ → Bool
+isDigit c = leb 48 c && leb c 57
 
 -- the digit d in ASCII
 abbrev pub digit : ℕ → ℕ

@@ -3,14 +3,15 @@
 use mathlib.Core.Bool.{Bool, cond, _&&_, _||_}
 use mathlib.Core.List.{List, [], _∷_}
 use Prim.Native.Nat.{ℕ, _+_, _-_, _*_}
-use lib.Dec.{eqb, leb, ltb}
+use lib.Dec.{eqb, ltb}
 use lib.ListN.{drop}
+use Rattle.text.specs.Decimal.{isDigit}
 use Rattle.text.specs.declared.field.Field.{Field}
 use Rattle.text.specs.declared.field.Field.the-variants.{Number, Wrong}
 
 -- whether c is a digit that may follow n digits of the value v
 unfoldable pub continues : ℕ → ℕ → ℕ → Bool
-continues v n c = leb 48 c && leb c 57 && ltb v 100000000 && (eqb n 0 || ltb 0 v)
+continues v n c = isDigit c && ltb v 100000000 && (eqb n 0 || ltb 0 v)
 
 -- what is left, s, of a number of which n digits of the value v stand before; the byte `stop` ends it
 unfoldable pub fieldFrom : ℕ → ℕ → ℕ → List ℕ → Field

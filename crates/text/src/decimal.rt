@@ -1,8 +1,19 @@
-// Numbers in decimal, written into a lent buffer.
+// Numbers in decimal: their digits, and how they are written into a lent buffer.
+ghost use mathlib.Core.Path.{_≡_};
 ghost use Prim.Native.Nat.{_+_, _≤_};
 ghost use lib.ListN.{length};
-ghost use Rattle.text.specs.Decimal.{decimal, field};
+ghost use Rattle.text.specs.Decimal.{decimal, field, isDigit};
 ghost use Rattle.text.specs.Put.{Put};
+
+// Whether c is a digit.
+pub fn is_digit(c: u8) -> bool
+    ensures { λ r. ⌜ r ≡ isDigit c ⌝ }
+{
+    if c < b'0' {
+        return false;
+    }
+    c <= b'9'
+}
 
 // The digits of x from `at` on.
 pub fn put_decimal(out: &mut [u8], at: usize, x: u64) -> usize

@@ -2,6 +2,7 @@
 ghost use mathlib.Core.Path.{_≡_};
 ghost use lib.ListN.{drop};
 ghost use Rattle.text.specs.Field.{continues, fieldOf};
+use crate::decimal::is_digit;
 use encoding::read::wide;
 
 // A number at the front of some bytes, and how many of them it takes with the byte after it.
@@ -15,10 +16,7 @@ pub enum Field {
 fn is_next_digit(v: u64, n: usize, c: u8) -> bool
     ensures { λ r. ⌜ r ≡ continues v n c ⌝ }
 {
-    if c < b'0' {
-        return false;
-    }
-    if b'9' < c {
+    if !is_digit(c) {
         return false;
     }
     if 100000000 <= v {

@@ -4,15 +4,13 @@ ghost use mathlib.Core.Path.{_≡_};
 ghost use Prim.Native.Nat.{_+_, _*_, _<_};
 ghost use lib.ListN.{getD, length};
 ghost use Rattle.text.specs.Hex.{allHex, bytesOfHex, hexValue, isHex};
+use crate::decimal::is_digit;
 
 // Whether c is a digit.
-fn is_hex_digit(c: u8) -> bool
+pub fn is_hex_digit(c: u8) -> bool
     ensures { λ r. ⌜ r ≡ isHex c ⌝ }
 {
-    if c < b'0' {
-        return false;
-    }
-    if c <= b'9' {
+    if is_digit(c) {
         return true;
     }
     if c < b'a' {

@@ -1,5 +1,4 @@
-// What programs need to read and print lines.
-pub mod console;
+// What it takes to read and write lines.
 pub mod decimal;
 pub mod field;
 pub mod hex;
