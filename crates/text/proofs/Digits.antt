@@ -1,16 +1,27 @@
 -- The laws of the decimal writing: a number below 10 is its digit, and any other is the writing of its tenth with one
 -- digit more. The bound in the definition does not matter, because a tenth of x is less than x.
-use mathlib.Core.Bool.{cond}
+use mathlib.Core.Bool.{and-eq-true-iff, cond, true}
 use mathlib.Core.List.{List, [], _∷_, _++_}
 use mathlib.Core.Path.{_≡_, ap, ap₂, _∙_}
 use Prim.Native.Nat.{ℕ, zero, suc, _+_, _*_, _/_, _%_, _^_, _≤_, _<_}
 use native.Mathlib.Decide.{decLt}
 use native.Mathlib.Nat.{not-suc-le-zero, pow-suc}
 use native.Mathlib.Omega.{arith}
-use borrow.Author.Tests.{lt-ltb, le-ltb}
-use lib.Dec.{ltb}
+use borrow.Author.Tests.{le-leb, le-ltb, leb-true, lt-ltb}
+use lib.Dec.{leb, ltb}
 use lib.ListN.{length, length-append}
-use Rattle.text.specs.Decimal.{decimal, digit, digits}
+use Rattle.text.specs.Decimal.{decimal, digit, digits, isDigit}
+
+-- which bytes are digits
+pub digit-bounds : (c : ℕ) → isDigit c ≡ true → (48 ≤ c) × (c ≤ 57)
+unfolding isDigit
+digit-bounds c e =
+    let bounds = and-eq-true-iff (leb 48 c) (leb c 57) .0 e in
+    (leb-true 48 c (bounds .0), leb-true c 57 (bounds .1))
+
+pub is-digit : (c : ℕ) → 48 ≤ c → c ≤ 57 → isDigit c ≡ true
+unfolding isDigit
+is-digit c low high = simp (le-leb 48 c low, le-leb c 57 high)
 
 -- a digit more than are needed changes nothing
 digits-enough : (j k x : ℕ) → x < j → x < k → digits j x ≡ digits k x

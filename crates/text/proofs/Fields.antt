@@ -4,8 +4,9 @@ use mathlib.Core.List.{List, [], _∷_}
 use mathlib.Core.Path.{_≡_, refl}
 use Prim.Native.Nat.{ℕ, _+_, _-_, _*_, _≤_, _<_}
 use native.Mathlib.Decide.{ℕ-discrete}
-use borrow.Author.Tests.{eq-eqb, ne-eqb, le-leb, leb-true, lt-ltb, ltb-true}
-use lib.Dec.{eqb, leb, ltb}
+use borrow.Author.Tests.{eq-eqb, ne-eqb, lt-ltb, ltb-true}
+use lib.Dec.{eqb, ltb}
+use Rattle.text.proofs.Digits.{digit-bounds, is-digit}
 use Rattle.text.specs.Decimal.{isDigit}
 use Rattle.text.specs.Field.{continues, fieldFrom}
 use Rattle.text.specs.declared.field.Field.the-variants.{Number, Wrong}
@@ -42,23 +43,23 @@ pub record NextDigit (v n c : ℕ) : Type 0 where
   pub lead : (n ≡ 0 → ⊥) → 0 < v
 
 pub next-digit : (v n c : ℕ) → continues v n c ≡ true → NextDigit v n c
-unfolding continues isDigit
+unfolding continues
 next-digit v n c e =
-    let whole = and-eq-true-iff (leb 48 c && leb c 57 && ltb v 100000000) (eqb n 0 || ltb 0 v) .0 e in
-    let front = and-eq-true-iff (leb 48 c && leb c 57) (ltb v 100000000) .0 (whole .0) in
-    let bounds = and-eq-true-iff (leb 48 c) (leb c 57) .0 (front .0) in
+    let whole = and-eq-true-iff (isDigit c && ltb v 100000000) (eqb n 0 || ltb 0 v) .0 e in
+    let front = and-eq-true-iff (isDigit c) (ltb v 100000000) .0 (whole .0) in
+    let bounds = digit-bounds c (front .0) in
     record {
-      low = leb-true 48 c (bounds .0);
-      high = leb-true c 57 (bounds .1);
+      low = bounds .0;
+      high = bounds .1;
       below = ltb-true v 100000000 (front .1);
       lead = λ some. ltb-true 0 v (rw (ne-eqb n 0 some) at (whole .1));
     }
 
 pub is-next : (v n c : ℕ) → NextDigit v n c → continues v n c ≡ true
-unfolding continues isDigit
+unfolding continues
 is-next v n c next = by (ℕ-discrete n 0)
   where
     by : Dec (n ≡ 0) → continues v n c ≡ true
-    by (yes none) = simp (le-leb _ _ (next .low), le-leb _ _ (next .high), lt-ltb _ _ (next .below), eq-eqb _ _ none)
+    by (yes none) = simp (is-digit c (next .low) (next .high), lt-ltb _ _ (next .below), eq-eqb _ _ none)
     by (no some) =
-        simp (le-leb _ _ (next .low), le-leb _ _ (next .high), lt-ltb _ _ (next .below), ne-eqb _ _ some, lt-ltb _ _ (next .lead some))
+        simp (is-digit c (next .low) (next .high), lt-ltb _ _ (next .below), ne-eqb _ _ some, lt-ltb _ _ (next .lead some))
