@@ -1,27 +1,33 @@
 -- What the answer about a line's bytes says: 16 names the place at which the search for a wrong byte stops; where it goes through all 63
 -- places lane and axles decide.
-use mathlib.Core.Bool.{Bool, cond, false, true, true≢false, _&&_, _||_, and-eq-true-iff, not}
+use mathlib.Core.Bool.{Bool, cond, false, true, true≢false, _||_, and-eq-true-iff, not}
 use mathlib.Core.List.{List}
 use mathlib.Core.Logic.{_↔_, Iff·rfl}
 use mathlib.Core.Path.{_≡_, _∙_, ap, refl, sym}
-use Prim.Native.Nat.{ℕ, _+_, _<_, _≤_}
+use Prim.Native.Nat.{ℕ, _+_, _-_, _<_, _≤_}
 use native.Mathlib.Omega.{arith}
-use borrow.Author.Tests.{eq-eqb, eqb-false, le-ltb, lt-ltb, ltb-false, ne-eqb}
+use borrow.Author.Tests.{eq-eqb, eqb-false, eqb-true, le-ltb, lt-ltb, ltb-false, ne-eqb}
 use lib.Dec.{eqb, ltb}
 use lib.ListN.{getD, length}
 use Rattle.encoding.proofs.Lowest as failing
+use Rattle.passage.proofs.Numerals.{number-below}
 use Rattle.passage.proofs.Places.{run, run-allowed}
 use Rattle.passage.proofs.Stops.{Stops, lowest-stops, stopped}
 use Rattle.passage.specs.Format.{allowedAt, allows, axles, kindAt, lane, lineLength, numberIn}
-use Rattle.passage.specs.Read.{bytesAnswer, lineAnswer}
+use Rattle.passage.specs.Front.{Fit}
+use Rattle.passage.specs.Read.{bytesAnswer, lineAnswer, next, numbersIn, readAnswer}
 use Rattle.passage.specs.Runs.{Digits, Run}
-use Rattle.passage.specs.declared.format.Kind.the-variants.{Class, Digit}
+use Rattle.passage.specs.declared.format.Kind.the-variants.{Class, Comma, Digit}
+use Rattle.passage.specs.declared.numbers.Numbers.{Numbers}
+use Rattle.passage.specs.declared.read.Reading.the-variants.{Given, Refused as NotRead}
+use Rattle.passage.specs.declared.read.Reading.{Reading}
 use Rattle.refusal.proofs.Tests.{equal-iff, past, refused-done}
 use Rattle.refusal.specs.declared.outcome.Outcome.the-variants.{Done, Refused}
 use Rattle.refusal.specs.declared.outcome.Outcome.{Outcome}
 use Rattle.refusal.specs.declared.outcome.Refusal.{Refusal}
 use Rattle.refusal.specs.declared.outcome.Refusal.the-variants.{LaneOrAxlesTooLow, LineNot63, WrongByte}
 use Rattle.text.specs.Decimal.{isDigit}
+use Rattle.text.specs.Text.{comma}
 
 -- all bytes are what their places allow
 abbrev pub AllAllowed : List ℕ → Type 0
@@ -87,6 +93,12 @@ module _ (s : List ℕ) where
     unfolding kindAt
     axles-digits = run-digits 17 2 (omega arith) (run Digit 17 2 refl)
 
+    -- the commas
+    pub comma-at : (k : ℕ) → k < lineLength → kindAt k ≡ Comma → getD s k 0 ≡ comma
+    unfolding allows
+    comma-at k l kind =
+        eqb-true (getD s k 0) comma (sym (ap (λ q. allows q (getD s (k - 1) 0) (getD s k 0)) kind) ∙ all k (omega arith) l)
+
   -- past 16 and 17
   pub right-allowed : bytesAnswer s ≡ Done → AllAllowed s
   unfolding bytesAnswer
@@ -104,6 +116,17 @@ module _ (s : List ℕ) where
     pub right-axles : 2 ≤ numberIn axles s
     right-axles = ltb-false (numberIn axles s) 2 (low-tests .1)
 
+  -- the numbers of a right line fit their digits
+  pub right-fit : bytesAnswer s ≡ Done → Fit (numbersIn s)
+  unfolding numbersIn
+  right-fit e =
+      let all = right-allowed e in (
+        number-below s 0 3 (lane-digits all),
+        number-below s 4 10 (time-digits all),
+        number-below s 15 1 (class-digits all),
+        number-below s 17 2 (axles-digits all),
+      )
+
   -- 15
   pub long-line : length s ≡ lineLength → lineAnswer s ≡ bytesAnswer s
   unfolding lineAnswer
@@ -112,3 +135,25 @@ module _ (s : List ℕ) where
   pub line-right : (lineAnswer s ≡ Done) ↔ ((length s ≡ lineLength) × (bytesAnswer s ≡ Done))
   unfolding lineAnswer
   line-right = past (not (eqb (length s) lineLength)) (Refused LineNot63) (bytesAnswer s) Done (equal-iff (length s) lineLength) (λ e. omega arith) Iff·rfl
+
+-- What is read.
+abbrev isGiven : Reading → Bool
+isGiven (Given n) = true
+isGiven (NotRead r) = false
+
+abbrev numbersOr : Numbers → Reading → Numbers
+numbersOr none (Given n) = n
+numbersOr none (NotRead r) = none
+
+given-next : (o : Outcome) (m n : Numbers) → next o NotRead (Given m) ≡ Given n → (o ≡ Done) × (m ≡ n)
+given-next Done m n e = (refl, ap (numbersOr m) e)
+given-next (Refused r) m n e = absurd (true≢false (sym (ap isGiven e)))
+
+module _ (s : List ℕ) where
+  pub read-done : (n : Numbers) → readAnswer s ≡ Given n → (lineAnswer s ≡ Done) × (numbersIn s ≡ n)
+  unfolding readAnswer
+  read-done n = given-next (lineAnswer s) (numbersIn s) n
+
+  pub done-read : lineAnswer s ≡ Done → readAnswer s ≡ Given (numbersIn s)
+  unfolding readAnswer
+  done-read e = ap (λ o. next o NotRead (Given (numbersIn s))) e

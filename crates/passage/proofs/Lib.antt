@@ -1,8 +1,10 @@
 pub mod Answers
+pub mod ByParts
 pub mod LineNumbers
 pub mod LineParts
 pub mod Numerals
 pub mod Places
+pub mod RoundTrip
 pub mod Sealing
 pub mod Stops
 pub mod Values

@@ -1,7 +1,7 @@
 -- A line that is not refused is a record of 504 bits, and it fills its bytes. So where both buffers are long enough neither the digest nor
 -- the producer refuses, and `seal` answers as they do.
 use mathlib.Core.List.{List}
-use mathlib.Core.Path.{_≡_, _∙_, ap, refl}
+use mathlib.Core.Path.{_≡_, _∙_, refl}
 use Prim.Native.Nat.{ℕ, _*_, _<_, _≤_}
 use borrow.Author.Tests.{eq-eqb, le-ltb, lt-ltb}
 use lib.ListN.{length}
@@ -10,7 +10,7 @@ use Rattle.encoding.specs.Bits.{number}
 use Rattle.encoding.specs.Bytes.{Bytes}
 use Rattle.encoding.specs.Packed.{spareBits}
 use Rattle.passage.specs.Format.{lineLength}
-use Rattle.passage.specs.Read.{lineAnswer, next}
+use Rattle.passage.specs.Read.{lineAnswer}
 use Rattle.passage.specs.Seal.{lineBits, sealAnswer}
 use Rattle.record.specs.Produce.{produceAnswer}
 use Rattle.refusal.specs.declared.outcome.Outcome.the-variants.{Done, Refused}

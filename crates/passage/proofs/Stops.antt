@@ -2,7 +2,7 @@
 -- be done in parts, one after the other: the first part that stops short decides.
 use mathlib.Core.Bool.{Bool, false, true, true≢false}
 use mathlib.Core.Logic.{by-cases}
-use mathlib.Core.Path.{_≡_, _∙_, refl, subst, sym}
+use mathlib.Core.Path.{_≡_, _∙_, subst, sym}
 use Prim.Native.Nat.{ℕ, _+_, _-_, _<_, _≤_}
 use native.Mathlib.Decide.{decLt}
 use native.Mathlib.Omega.{arith}

@@ -8,7 +8,7 @@ use lib.Dec.{eqb}
 use lib.ListN.{getD}
 use Rattle.encoding.specs.Lowest.{lowestFailing}
 use Rattle.passage.specs.Format.{fits, kindAt}
-use Rattle.passage.specs.declared.format.Kind.the-variants.{PlateFirst, PlateNext, Comma}
+use Rattle.passage.specs.declared.format.Kind.the-variants.{PlateFirst, PlateNext}
 use Rattle.passage.specs.declared.format.Kind.{Kind}
 use Rattle.text.specs.Decimal.{isDigit}
 

@@ -7,7 +7,7 @@ use mathlib.Core.Path.{_≡_}
 use Prim.Native.Nat.{ℕ, _+_, _-_, _<_, _^_}
 use lib.Dec.{ltb}
 use lib.ListN.{getD, length}
-use Rattle.passage.specs.Format.{Field, allowedAt, allows, axles, blind, class, kindAt, lane, plate, time}
+use Rattle.passage.specs.Format.{allowedAt, allows, axles, blind, class, kindAt, lane, plate, time}
 use Rattle.passage.specs.Write.{lineOf}
 use Rattle.passage.specs.declared.numbers.Numbers.{Numbers}
 use Rattle.text.specs.Hex.{isHex}

@@ -1,2 +1,3 @@
 pub mod Injective
+pub mod Small
 pub mod Tests

@@ -1,8 +1,9 @@
 -- The operation's own answer, put into its number, for which any row that it names is small enough.
 use borrow.Author.Needs.{needs}
 use mathlib.Core.Path.{ap, subst, sym, _∙_}
+use Rattle.record.proofs.check.Small.{check-small}
+use Rattle.refusal.proofs.Small.{Small}
 use Rattle.refusal.specs.Packing.{packedOutcome}
-use Rattle.sm3rows.proofs.Small.{Small, check-small}
 use Rattle.sm3rows.proofs.sm3rows_check.Statement.{statement}
 use Rattle.sm3rows.proofs.sm3rows_check.Tie as tie
 

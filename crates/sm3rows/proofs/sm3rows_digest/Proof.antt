@@ -2,8 +2,9 @@
 use borrow.Author.Needs.{needs}
 use mathlib.Core.Path.{ap, subst, sym, _∙_}
 use lib.ListN.{length}
+use Rattle.refusal.proofs.Small.{Small}
 use Rattle.refusal.specs.Packing.{packedOutcome}
-use Rattle.sm3rows.proofs.Small.{Small, digest-small}
+use Rattle.sm3rows.proofs.Small.{digest-small}
 use Rattle.sm3rows.proofs.sm3rows_digest.Statement.{statement}
 use Rattle.sm3rows.proofs.sm3rows_digest.Tie as tie
 

@@ -1,8 +1,9 @@
 -- The operation's own answer, put into its number; the bytes are those that the operation leaves.
 use borrow.Author.Needs.{needs}
 use mathlib.Core.Path.{ap, subst, sym, _∙_}
+use Rattle.refusal.proofs.Small.{Small}
 use Rattle.refusal.specs.Packing.{packedOutcome}
-use Rattle.sm3rows.proofs.Small.{Small, pack-small}
+use Rattle.sm3rows.proofs.Small.{pack-small}
 use Rattle.sm3rows.proofs.sm3rows_pack.Statement.{statement}
 use Rattle.sm3rows.proofs.sm3rows_pack.Tie as tie
 

@@ -1,12 +1,10 @@
 -- The plate's first place is asked by itself; behind it the search goes on to the plate's end.
-use mathlib.Core.Path.{_≡_, _∙_, refl, sym}
-use mathlib.Core.Bool.{cond}
+use mathlib.Core.Path.{_∙_, refl, sym}
 use Prim.Native.Nat.{_+_}
 use native.Mathlib.Omega.{arith}
 use borrow.Author.Needs.{needs}
 use borrow.Author.Tests.{eq-eqb, ne-eqb, not-false, not-true}
-use Rattle.passage.proofs.Stops.{Stops, passed-more, stopped, stops-as, stops-at, stops-behind}
-use Rattle.passage.specs.Format.{fits}
+use Rattle.passage.proofs.Stops.{passed-more, stopped, stops-as, stops-at, stops-behind}
 use Rattle.passage.specs.Runs.{plateFits}
 use Rattle.passage.proofs.format.wrong_in_plate.Statement.{statement}
 use Rattle.passage.proofs.format.wrong_in_plate.Tie as tie

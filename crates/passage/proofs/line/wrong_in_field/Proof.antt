@@ -1,6 +1,5 @@
 -- The field's places are searched and then the comma's: where the first search stops short it decides.
-use mathlib.Core.Path.{_≡_, subst, sym}
-use Prim.Native.Nat.{_+_}
+use mathlib.Core.Path.{_≡_, subst}
 use native.Mathlib.Omega.{arith}
 use borrow.Author.Needs.{needs}
 use Rattle.passage.proofs.Places.{run-allowed}

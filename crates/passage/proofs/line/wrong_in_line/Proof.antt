@@ -1,12 +1,12 @@
 -- The line is searched field by field: each search begins where the one before went through, and the first that stops short decides.
 use mathlib.Core.List.{List}
-use mathlib.Core.Path.{_≡_, refl}
+use mathlib.Core.Path.{refl}
 use Prim.Native.Nat.{ℕ}
 use native.Mathlib.Omega.{arith}
 use borrow.Author.Needs.{needs}
 use Rattle.encoding.proofs.Lowest.{AllHold}
 use Rattle.passage.proofs.Places.{plate-allowed, run, run-allowed}
-use Rattle.passage.proofs.Stops.{Stops, passed-then, stopped, stops-as, stops-at, stops-behind, stops-short, went-through}
+use Rattle.passage.proofs.Stops.{passed-then, stopped, stops-as, stops-at, stops-behind, stops-short, went-through}
 use Rattle.passage.specs.Format.{allowedAt, kindAt}
 use Rattle.passage.specs.declared.format.Kind.the-variants.{Class, Comma, Digit, Hex}
 use Rattle.passage.proofs.line.wrong_in_line.Statement.{statement}

@@ -3,11 +3,10 @@
 use mathlib.Core.List.{List, [], _∷_, _++_, append-assoc, append-nil}
 use mathlib.Core.Path.{_≡_, _∙_, ap, refl, sym}
 use Prim.Native.Nat.{ℕ, suc, _+_, _-_, _/_, _%_, _^_, _<_, _≤_}
-use native.Mathlib.Nat.{add-zero}
 use native.Mathlib.Omega.{arith}
 use borrow.Author.Needs.{needs}
 use lib.ListN.{length, length-set}
-use Rattle.encoding.proofs.Written.{length-written, written-as, written-before, written-none, written-one}
+use Rattle.encoding.proofs.Written.{written-as, written-before, written-none, written-one}
 use Rattle.encoding.specs.Written.{Written}
 use Rattle.passage.proofs.Numerals.{numeral-last, tenth-below}
 use Rattle.passage.specs.Write.{numeral}

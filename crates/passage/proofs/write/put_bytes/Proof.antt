@@ -1,13 +1,13 @@
 -- Before turn i the first i bytes stand written.
-use mathlib.Core.List.{List, [], _∷_, _++_}
+use mathlib.Core.List.{List}
 use mathlib.Core.Path.{_≡_, _∙_, ap, refl, sym}
-use Prim.Native.Nat.{ℕ, _+_, _-_, _≤_}
+use Prim.Native.Nat.{_+_, _-_, _≤_}
 use native.Mathlib.Numerals.{add-one}
 use native.Mathlib.Omega.{arith}
 use borrow.Author.Needs.{needs}
 use lib.ListN.{getD, length, length-set, take}
 use lib.Seq.{length-take-le, take-length, take-suc}
-use Rattle.encoding.proofs.Written.{length-written, written-as, written-none, written-one, written-then}
+use Rattle.encoding.proofs.Written.{written-as, written-none, written-one, written-then}
 use Rattle.encoding.specs.Written.{Written}
 use Rattle.passage.proofs.write.put_bytes.Statement.{statement}
 use Rattle.passage.proofs.write.put_bytes.Tie as tie

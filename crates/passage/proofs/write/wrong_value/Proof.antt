@@ -1,14 +1,10 @@
 -- The numbers are searched, then the plate, then the blind: each where it stands in the line.
-use mathlib.Core.Bool.{cond, true}
 use mathlib.Core.List.{List}
-use mathlib.Core.Logic.{by-cases}
-use mathlib.Core.Path.{_≡_, _∙_, ap, refl, subst, sym}
-use Prim.Native.Nat.{ℕ, _+_, _-_, _<_, _≤_}
-use native.Mathlib.Decide.{decLt}
+use mathlib.Core.Path.{_≡_, _∙_}
+use Prim.Native.Nat.{ℕ, _+_, _-_}
 use native.Mathlib.Omega.{arith}
 use borrow.Author.Needs.{needs}
-use borrow.Author.Tests.{eq-eqb, ne-eqb}
-use lib.ListN.{getD, length}
+use lib.ListN.{length}
 use Rattle.encoding.proofs.Lowest.{AllHold}
 use Rattle.passage.proofs.Places.{plate-kind}
 use Rattle.passage.proofs.Stops.{Stops, passed-more, passed-then, stopped, stops-at, stops-behind, stops-moved, stops-short, went-through}
