@@ -6,6 +6,7 @@ mod fields;
 mod lines;
 mod plates;
 mod seals;
+pub mod soak;
 mod writes;
 
 use crate::plan::{job, Job};
