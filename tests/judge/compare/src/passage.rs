@@ -87,6 +87,7 @@ fn seal_jobs(jobs: &mut Vec<Job>, amounts: &Amounts) {
         faults::seals(calls, 4 * times);
         seals::sizes(calls, &ground);
         seals::faults(calls, &ground, times);
+        seals::overlapping(calls, &ground, 10 * times);
     }));
 }
 
@@ -121,6 +122,7 @@ fn line_jobs(jobs: &mut Vec<Job>, amounts: &Amounts) {
             writes::two_wrong_fields(calls);
             writes::sizes(calls);
             writes::buffers(calls);
+            writes::parts_of_one_slice(calls);
             faults::writes(calls, 100 * times);
         },
     ));

@@ -5,9 +5,10 @@ use std::fmt::{self, Display};
 use host::Empty;
 use judge::operations::DIGEST_BYTES;
 use judge::passage;
+use judge::passage::line::LINE_BYTES;
 use judge::refusal::Refusal;
 
-use super::fields::Fields;
+use super::fields::{Fields, BLIND_BYTES, PLATE_BYTES};
 use crate::answers;
 use crate::calls::Calls;
 use crate::lent::Lent;
@@ -134,6 +135,25 @@ impl Calls {
         (judged, out.slice().to_vec())
     }
 
+    /// Writes a line whose plate and blind stand in one slice, from these bytes
+    /// of it on; they may overlap.
+    pub fn passage_write_parts(&mut self, of: &Fields, bytes: &[u8], [plate, blind]: [usize; 2]) {
+        let (operation, buffers) = (Operation::PassageWrite, &[LINE_BYTES]);
+        let note = format!("plate and blind of one slice, from {plate} and {blind} on");
+        let what = What { of, buffers, note };
+        let lent = Lent::holding(bytes, &mut self.random);
+        let mut out = Lent::buffer(LINE_BYTES, &mut self.random);
+        let (before, mut must) = (lent.clone(), out.clone());
+        let plate = &lent.slice()[plate..plate + PLATE_BYTES];
+        let blind = &lent.slice()[blind..blind + BLIND_BYTES];
+        let judged = passage::write(of.numbers, plate, blind, must.slice_mut());
+        let (numbers, to) = (of.as_lent(), out.slice_mut());
+        let answer = host::passage::write(Empty::Null, numbers, plate, blind, to);
+        self.answers(operation, answers::plain(judged), answer, &what);
+        self.memory(operation, "slice", &before, &lent, &what);
+        self.memory(operation, "buffer", &must, &out, &what);
+    }
+
     /// Seals a line into buffers of these lengths. Returns the judge's answer,
     /// and what the library left in the buffers.
     pub fn passage_seal(
@@ -211,5 +231,18 @@ impl Calls {
         self.memory(operation, "digest", &held_before, &held, note);
         self.memory(operation, "assignment", &read_before, &read, note);
         self.check_known(known, LINE_BITS, digest, assignment, note);
+    }
+
+    /// The check of an assignment against 32 of its own bytes, with an answer
+    /// that is known.
+    pub fn passage_check_own_bytes(&mut self, known: Result<(), Refusal>, bytes: &[u8], at: usize) {
+        let operation = Operation::PassageCheck;
+        let what = format!("the digest is the assignment's bytes from {at} on");
+        let lent = Lent::holding(bytes, &mut self.random);
+        let before = lent.clone();
+        let digest = &lent.slice()[at..at + DIGEST_BYTES];
+        let answer = host::passage::check(Empty::Null, digest, lent.slice());
+        self.answers(operation, answers::plain(known), answer, &what);
+        self.memory(operation, "assignment", &before, &lent, &what);
     }
 }

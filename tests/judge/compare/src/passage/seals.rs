@@ -157,3 +157,17 @@ pub fn other_records(calls: &mut Calls, ground: &Ground, step: usize) {
         calls.must_be(if bits == LINE_BITS { 0 } else { 9 }, judged, &claim.note);
     }
 }
+
+/// So many claims whose digest is 32 bytes of the assignment itself. The digest
+/// wires have its bits, so that the check comes to the rows.
+pub fn overlapping(calls: &mut Calls, ground: &Ground, times: usize) {
+    for _ in 0..times {
+        let mut claim = sealed(calls);
+        let at = calls.random.range(8 * 257, claim.assignment.len() - 31);
+        claim.digest.copy_from_slice(&claim.assignment[at..at + 32]);
+        claim.set_digest_wires();
+        let (digest, assignment) = (&claim.digest, &claim.assignment);
+        let judged = check_with(&ground.table, ground.length, assignment, digest);
+        calls.passage_check_own_bytes(judged, assignment, at);
+    }
+}

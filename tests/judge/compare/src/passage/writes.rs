@@ -4,7 +4,7 @@
 use judge::passage::line::LINE_BYTES;
 use judge::passage::Numbers;
 
-use super::fields::{Fields, BLIND, BLIND_BYTES, MOST, PLATE, PLATE_BYTES};
+use super::fields::{some_of, Fields, BLIND, BLIND_BYTES, DIGITS, MOST, PLATE, PLATE_BYTES};
 use super::lines::times;
 use crate::answers::wrong_byte;
 use crate::calls::Calls;
@@ -224,6 +224,19 @@ pub fn buffers(calls: &mut Calls) {
         fields.blind[31] = b'A';
         let (judged, _) = calls.passage_write(&fields, out_len, "a wrong blind");
         calls.must_answer(wrong_byte(62), judged, "a wrong blind");
+    }
+}
+
+/// "Slices that are only read may overlap" (docs/HOST.md): plate and blind are
+/// those of a line, and parts of the same digits at any distance.
+pub fn parts_of_one_slice(calls: &mut Calls) {
+    let fields = Fields::random(&mut calls.random);
+    calls.passage_write_parts(&fields, &fields.line(), [PLATE, BLIND]);
+    let digits = some_of(DIGITS, PLATE_BYTES + BLIND_BYTES, &mut calls.random);
+    for plate in 0..=BLIND_BYTES {
+        for blind in 0..=PLATE_BYTES {
+            calls.passage_write_parts(&fields, &digits, [plate, blind]);
+        }
     }
 }
 
