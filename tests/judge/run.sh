@@ -1,14 +1,15 @@
 #!/bin/sh
-# Compares libsm3rows.a and the programs `rows`, `steps` and `packed` with the judge, and the digest with OpenSSL's too.
+# Compares libsm3rows.a, libpassage_c.a and the programs `rows`, `steps` and `packed` with the judge, and the digest with
+# OpenSSL's too.
 #
 #   tests/judge/run.sh [--short] [--seed N]      for the gate: a minute at most on two cores
 #   tests/judge/run.sh --full [--seed N]
 #   tests/judge/run.sh --soak MINUTES [--seed N]
 #   tests/judge/run.sh --tests                   the judge's own tests and those of the comparison
 #
-# SM3ROWS_LIB names the archive; without it, it is the one that `rt staticlib sm3rows` writes. ROWS_PROGRAM,
-# STEPS_PROGRAM and PACKED_PROGRAM name the programs; without them, they are the ones that `rt check rows steps packed`
-# writes. All four must be there.
+# SM3ROWS_LIB and PASSAGE_LIB name the archives; without them, they are the ones that `rt staticlib sm3rows` and
+# `rt staticlib passage_c` write. ROWS_PROGRAM, STEPS_PROGRAM and PACKED_PROGRAM name the programs; without them, they are
+# the ones that `rt check rows steps packed` writes. All five must be there.
 set -eu
 
 # present FILE COMMAND: the file is there; the command would write it.
@@ -18,14 +19,16 @@ present() {
 
 root=$(cd "$(dirname "$0")/../.." && pwd)
 SM3ROWS_LIB=${SM3ROWS_LIB:-$root/target/staticlib/libsm3rows.a}
+PASSAGE_LIB=${PASSAGE_LIB:-$root/target/staticlib/libpassage_c.a}
 rows=${ROWS_PROGRAM:-$root/target/bin/rows}
 steps=${STEPS_PROGRAM:-$root/target/bin/steps}
 packed=${PACKED_PROGRAM:-$root/target/bin/packed}
 present "$SM3ROWS_LIB" "rt staticlib sm3rows"
+present "$PASSAGE_LIB" "rt staticlib passage_c"
 present "$rows" "rt check rows"
 present "$steps" "rt check steps"
 present "$packed" "rt check packed"
-export SM3ROWS_LIB
+export SM3ROWS_LIB PASSAGE_LIB
 export CARGO_TARGET_DIR="$root/target/judge"
 
 # A C compiler and libcrypto's development files.

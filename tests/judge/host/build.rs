@@ -1,15 +1,21 @@
-//! Links the archive that the variable SM3ROWS_LIB names, and OpenSSL's
-//! libcrypto. Programs that depend on this crate are linked with both.
+//! Links the archives that the variables SM3ROWS_LIB and PASSAGE_LIB name, and
+//! OpenSSL's libcrypto. Programs that depend on this crate are linked with all.
 
 use std::{env, fs};
 
 fn main() {
-    println!("cargo:rerun-if-env-changed=SM3ROWS_LIB");
-    let given = env::var("SM3ROWS_LIB").expect("SM3ROWS_LIB must name libsm3rows.a");
+    link("PASSAGE_LIB", "passage_c");
+    link("SM3ROWS_LIB", "sm3rows");
+    println!("cargo:rustc-link-lib=dylib=crypto");
+}
+
+/// Links the archive of that name, `libNAME.a`, where the variable says.
+fn link(variable: &str, name: &str) {
+    println!("cargo:rerun-if-env-changed={variable}");
+    let given = env::var(variable).unwrap_or_else(|_| panic!("{variable} must name lib{name}.a"));
     let archive = fs::canonicalize(&given).unwrap_or_else(|error| panic!("{given}: {error}"));
     let folder = archive.parent().expect("a file lies in a folder");
     println!("cargo:rerun-if-changed={}", archive.display());
     println!("cargo:rustc-link-search=native={}", folder.display());
-    println!("cargo:rustc-link-lib=static=sm3rows");
-    println!("cargo:rustc-link-lib=dylib=crypto");
+    println!("cargo:rustc-link-lib=static={name}");
 }

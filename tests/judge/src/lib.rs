@@ -1,9 +1,10 @@
 //! An outside judge for the paper "SM3 record rows over the prime 2^61 - 1".
 //!
-//! Everything here was written from that paper alone and from the first two of
-//! its change requests, "Packed assignments" and "Lengths in bits", but `steps`,
-//! whose program has its format from docs/STEPS.md. Sentences of the papers are quoted in the
-//! comments beside the code that follows them.
+//! Everything here was written from that paper alone and from the first three of
+//! its change requests, "Packed assignments", "Lengths in bits" and "Passage
+//! records", but `steps`, whose program has its format from docs/STEPS.md.
+//! Sentences of the papers are quoted in the comments beside the code that
+//! follows them.
 //!
 //! * `sm3`: the hash, and every word it computes on the way ("SM3 as used").
 //! * `length`: lengths in range and the counts of blocks, wires and rows.
@@ -18,7 +19,8 @@
 //! * `packed`: the input and the output of the program `packed`.
 //! * `listing`: the input line and the output of the program `rows`.
 //! * `steps`: the output of the program `steps`, which step a row stands for.
-//! * `refusal`: the fourteen refusals. `field`: numbers modulo p. `bits`: the
+//! * `passage`: the lines of the passage product: read, write, seal, check.
+//! * `refusal`: the seventeen refusals. `field`: numbers modulo p. `bits`: the
 //!   bits of bytes.
 
 #![forbid(unsafe_code)]
@@ -33,6 +35,7 @@ pub mod listing;
 pub mod operations;
 pub mod packed;
 pub mod packing;
+pub mod passage;
 pub mod record;
 pub mod refusal;
 pub mod rows;

@@ -1,8 +1,10 @@
-//! "Refusals in checking order", those that packing adds, and the two that
-//! lengths in bits add. Each has a number. Two carry more: 9 "the lowest row that
-//! is not satisfied", and 10 the "lowest wire".
+//! "Refusals in checking order", those that packing adds, the two that lengths
+//! in bits add, and the three of passage records. Each has a number. Three carry
+//! more: 9 "the lowest row that is not satisfied", 10 the "lowest wire", and 16
+//! the "lowest byte".
 
 use crate::forms::{RowNumber, Wire};
+use crate::passage::line::Place;
 
 #[derive(Clone, Copy, Debug, PartialEq, Eq)]
 pub enum Refusal {
@@ -34,6 +36,12 @@ pub enum Refusal {
     RecordBytes,
     /// 14. A bit after the last record bit is set.
     BitAfterRecord,
+    /// 15. The passage is not 63 bytes.
+    LineBytes,
+    /// 16. A byte or value that its place does not allow; this is the lowest one.
+    WrongByte(Place),
+    /// 17. Lane 000 or axles below 02.
+    LaneOrAxles,
 }
 
 impl Refusal {
@@ -54,6 +62,9 @@ impl Refusal {
             Refusal::SpareBit => 12,
             Refusal::RecordBytes => 13,
             Refusal::BitAfterRecord => 14,
+            Refusal::LineBytes => 15,
+            Refusal::WrongByte(_) => 16,
+            Refusal::LaneOrAxles => 17,
         }
     }
 }

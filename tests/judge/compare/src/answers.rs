@@ -1,15 +1,20 @@
 //! The answer as one number: the low byte is the refusal's number, 0 for
 //! none. For refusal 9 the row number stands from bit 8 on, for refusal 10 the
-//! wire number; for a row the counts of A, B and C stand at bits 8, 16 and 24.
-//! Otherwise 0 is above.
+//! wire number, for refusal 16 the number of the byte; for a row the counts of A,
+//! B and C stand at bits 8, 16 and 24; for a passage that is read the lane at
+//! bits 8 to 17, the time at 18 to 51, the class at 52 to 55 and the axles at 56
+//! to 62. Otherwise 0 is above.
 
 use judge::operations::Counts;
+use judge::passage::line::Place;
+use judge::passage::Numbers;
 use judge::refusal::Refusal;
 
 fn refusal(refusal: Refusal) -> u64 {
     let number = match refusal {
         Refusal::Unsatisfied(row) => row.0,
         Refusal::NoBit(wire) => wire.0,
+        Refusal::WrongByte(place) => u32::from(place.0),
         _ => 0,
     };
     u64::from(number) << 8 | u64::from(refusal.number())
@@ -24,6 +29,16 @@ pub fn row(answer: Result<Counts, Refusal>) -> u64 {
     answer.map_or_else(refusal, counts)
 }
 
+pub fn passage(answer: Result<Numbers, Refusal>) -> u64 {
+    let fields = |n: Numbers| n.lane << 8 | n.time << 18 | n.class << 52 | n.axles << 56;
+    answer.map_or_else(refusal, fields)
+}
+
+/// Refusal 16 at that byte.
+pub fn wrong_byte(byte: usize) -> u64 {
+    refusal(Refusal::WrongByte(Place(byte as u8)))
+}
+
 /// An answer in words, for the report of a difference.
 pub fn told(answer: u64) -> String {
     match (answer & 0xff, answer >> 8) {
@@ -31,5 +46,40 @@ pub fn told(answer: u64) -> String {
         (0, above) => format!("no refusal and {above:#x} above"),
         (refusal, 0) => format!("refusal {refusal}"),
         (refusal, above) => format!("refusal {refusal} and {above} above"),
+    }
+}
+
+#[cfg(test)]
+mod tests {
+    use super::*;
+
+    fn read(lane: u64, time: u64, class: u64, axles: u64) -> u64 {
+        passage(Ok(Numbers {
+            lane,
+            time,
+            class,
+            axles,
+        }))
+    }
+
+    #[test]
+    fn the_fields_of_a_passage_have_bits_of_their_own() {
+        // From bit 62 down: axles 7 bits, class 4, time 34, lane 10, refusal 8.
+        let highest = "0_1100011_1001_1001010100000010111110001111111111_1111100111_00000000";
+        let bits = highest.replace('_', "");
+        let expected = u64::from_str_radix(&bits, 2).unwrap();
+        assert_eq!(read(999, 9_999_999_999, 9, 99), expected);
+        assert_eq!(read(1, 0, 0, 0), 0x100);
+        assert_eq!(read(0, 1, 0, 0), 0x4_0000);
+        assert_eq!(read(0, 0, 1, 0), 0x0010_0000_0000_0000);
+        assert_eq!(read(0, 0, 0, 2), 0x0200_0000_0000_0000);
+    }
+
+    #[test]
+    fn a_wrong_byte_stands_from_bit_8_on() {
+        assert_eq!(wrong_byte(0), 0x10);
+        assert_eq!(wrong_byte(62), 0x3e10);
+        assert_eq!(passage(Err(Refusal::LineBytes)), 15);
+        assert_eq!(passage(Err(Refusal::LaneOrAxles)), 17);
     }
 }

@@ -1,6 +1,8 @@
 //! One call of the library beside the same call of the judge: the answer and
 //! every byte of the memory around the lent slices are compared.
 
+use std::fmt::Display;
+
 use host::Empty;
 use judge::check::check_with;
 use judge::forms::{Row, RowTable};
@@ -41,12 +43,12 @@ impl Calls {
         }
     }
 
-    fn empty(&mut self) -> Empty {
+    pub fn empty(&mut self) -> Empty {
         self.random.pick(&[Empty::Null, Empty::Address])
     }
 
     /// Compares two answers and counts the call.
-    fn answers(&mut self, operation: Operation, judged: u64, answer: u64, what: &str) {
+    pub fn answers(&mut self, operation: Operation, judged: u64, answer: u64, what: impl Display) {
         self.tally.call(operation, (judged & 0xff) as u8);
         if judged != answer {
             let (judged, answer) = (told(judged), told(answer));
@@ -57,7 +59,14 @@ impl Calls {
     }
 
     /// Compares memory around a lent slice with what it must hold.
-    fn memory(&mut self, operation: Operation, slice: &str, must: &Lent, holds: &Lent, what: &str) {
+    pub fn memory(
+        &mut self,
+        operation: Operation,
+        slice: &str,
+        must: &Lent,
+        holds: &Lent,
+        what: impl Display,
+    ) {
         if must != holds {
             let at = must.first_difference(holds);
             self.tally.difference(format!(
@@ -267,10 +276,15 @@ impl Calls {
     /// a slip of the judge in the order of refusals would show here.
     pub fn must_be(&mut self, number: u8, judged: Result<(), Refusal>, what: &str) {
         let judged = judged.map_or_else(Refusal::number, |()| 0);
-        if judged != number {
-            self.tally.difference(format!(
-                "{what}: the judge refuses by {judged}, the paper by {number}"
-            ));
+        self.must_answer(u64::from(number), u64::from(judged), what);
+    }
+
+    /// The same for a whole answer.
+    pub fn must_answer(&mut self, must: u64, judged: u64, what: impl Display) {
+        if judged != must {
+            let (judged, must) = (told(judged), told(must));
+            self.tally
+                .difference(format!("{what}: the judge has {judged}, the paper {must}"));
         }
     }
 }

@@ -1,5 +1,5 @@
-//! Compares the C library libsm3rows.a with the judge and with OpenSSL, and
-//! the programs `rows`, `steps` and `packed` with the judge.
+//! Compares the C libraries libsm3rows.a and libpassage_c.a with the judge, the
+//! digest with OpenSSL's too, and the programs `rows`, `steps` and `packed` with the judge.
 //!
 //! `compare --rows FILE --steps FILE --packed FILE [--short | --full] [--seed N]
 //! [--threads N]`
@@ -19,6 +19,7 @@ mod listings;
 mod openssl;
 mod packed;
 mod packing;
+mod passage;
 mod plan;
 mod program;
 mod random;

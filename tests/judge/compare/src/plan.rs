@@ -6,7 +6,7 @@ use judge::length::{Length, LONGEST};
 use crate::calls::Calls;
 use crate::claim::Ground;
 use crate::program::{Program, Programs};
-use crate::{kinds, listings, packed, packing, records, refusals, sections};
+use crate::{kinds, listings, packed, packing, passage, records, refusals, sections};
 
 /// How much of everything. Lengths are in bits.
 pub struct Amounts {
@@ -41,6 +41,7 @@ pub struct Amounts {
     lines: usize,
     /// Claims at random lengths, and as many damaged lines, to `packed`.
     claims: usize,
+    passages: passage::Amounts,
 }
 
 impl Amounts {
@@ -63,6 +64,7 @@ impl Amounts {
             refused: vec![(0, 2), (3, 2), (453, 1)],
             lines: 40,
             claims: 10,
+            passages: passage::Amounts::short(),
         }
     }
 
@@ -103,6 +105,7 @@ impl Amounts {
             ],
             lines: 1_000,
             claims: 200,
+            passages: passage::Amounts::full(),
         }
     }
 }
@@ -115,7 +118,7 @@ pub struct Job {
     pub work: Work,
 }
 
-fn job(name: String, work: impl Fn(&mut Calls) + Send + Sync + 'static) -> Job {
+pub fn job(name: String, work: impl Fn(&mut Calls) + Send + Sync + 'static) -> Job {
     let work = Box::new(work);
     Job { name, work }
 }
@@ -149,6 +152,7 @@ pub fn jobs(amounts: &Amounts, seed: u64, programs: &Programs) -> Vec<Job> {
     claim_jobs(&mut jobs, amounts, seed);
     refusal_jobs(&mut jobs, amounts);
     packed_jobs(&mut jobs, amounts, &programs.packed);
+    jobs.extend(passage::jobs(&amounts.passages));
     listing_jobs(&mut jobs, amounts, seed, &programs.rows);
     listing_jobs(&mut jobs, amounts, seed, &programs.steps);
     length_jobs(&mut jobs, amounts, seed);

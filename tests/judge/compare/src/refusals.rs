@@ -99,10 +99,10 @@ pub fn first(faults: &[u8]) -> u8 {
 }
 
 /// A claim with the faults of these refusals, and what it is held against.
-struct Faulty {
+pub struct Faulty {
     length: u64,
-    digest: Vec<u8>,
-    assignment: Vec<u8>,
+    pub digest: Vec<u8>,
+    pub assignment: Vec<u8>,
 }
 
 /// The faults of refusals 7, 8 and 9, which are in the entries.
@@ -122,7 +122,7 @@ fn spoil(claim: &mut Claim, has: impl Fn(u8) -> bool, random: &mut Random) {
     }
 }
 
-fn faulty(calls: &mut Calls, right: &Claim, length: u64, has: impl Fn(u8) -> bool) -> Faulty {
+pub fn faulty(calls: &mut Calls, right: &Claim, length: u64, has: impl Fn(u8) -> bool) -> Faulty {
     let random = &mut calls.random;
     let mut claim = right.clone();
     spoil(&mut claim, &has, random);

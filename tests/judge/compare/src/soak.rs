@@ -15,6 +15,7 @@ use judge::record::spare_bits;
 use crate::answers::{self, told};
 use crate::claim::{Claim, Ground};
 use crate::damage::WAYS;
+use crate::passage::soak::Passages;
 use crate::random::Random;
 
 /// By how many kB the process may vary once all its memory was used once.
@@ -23,7 +24,7 @@ const INTERVAL: Duration = Duration::from_secs(10);
 const LENGTHS: [u64; 9] = [0, 1, 440, 447, 448, 510, 957, 2403, 8127];
 const ROWS_A_LENGTH: usize = 500;
 /// What buffers hold before a call.
-const OLD: u8 = 0xa5;
+pub const OLD: u8 = 0xa5;
 
 /// A record with its right claim, and that packed.
 struct Record {
@@ -56,6 +57,25 @@ struct Pool {
     rows: Vec<Listed>,
     checks: Vec<Checked>,
     buffer: Vec<u8>,
+    passages: Passages,
+}
+
+/// Whether an answer and the bytes of a buffer are what they must be.
+pub fn steady(
+    name: &str,
+    must: u64,
+    answer: u64,
+    must_hold: &[u8],
+    bytes: &[u8],
+) -> Result<(), String> {
+    if answer != must {
+        let (must, answer) = (told(must), told(answer));
+        return Err(format!("{name}: {answer} in the place of {must}"));
+    }
+    if bytes != must_hold {
+        return Err(format!("{name}: other bytes than before"));
+    }
+    Ok(())
 }
 
 fn listed(ground: &Ground, row: u64) -> Listed {
@@ -120,6 +140,7 @@ impl Pool {
             rows,
             checks,
             buffer,
+            passages: Passages::new(random),
         }
     }
 
@@ -131,14 +152,7 @@ impl Pool {
 
     /// Whether the answer and the buffer are what they must be.
     fn told(&self, name: &str, must: u64, answer: u64, bytes: &[u8]) -> Result<(), String> {
-        if answer != must {
-            let (must, answer) = (told(must), told(answer));
-            return Err(format!("{name}: {answer} in the place of {must}"));
-        }
-        if self.buffer[..bytes.len()] != *bytes {
-            return Err(format!("{name}: other bytes than before"));
-        }
-        Ok(())
+        steady(name, must, answer, bytes, &self.buffer[..bytes.len()])
     }
 
     fn digest(&mut self, random: &mut Random) -> Result<(), String> {
@@ -256,7 +270,8 @@ impl Pool {
     /// One call, mostly a short one.
     fn call(&mut self, random: &mut Random) -> Result<(), String> {
         match random.below(100) {
-            0..=54 => self.row(random),
+            0..=34 => self.row(random),
+            35..=54 => self.passages.call(random),
             55..=89 => self.digest(random),
             90..=93 => self.refused(random),
             94 => self.spare_bit(random),

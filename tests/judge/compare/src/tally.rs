@@ -14,24 +14,45 @@ pub enum Operation {
     Check,
     Pack,
     Unpack,
+    PassageRead,
+    PassageWrite,
+    PassageSeal,
+    PassageCheck,
 }
 
-const OPERATIONS: [(Operation, &str); 6] = [
-    (Operation::Digest, "digest"),
-    (Operation::Row, "row"),
-    (Operation::Produce, "produce"),
-    (Operation::Check, "check"),
-    (Operation::Pack, "pack"),
-    (Operation::Unpack, "unpack"),
-];
+/// Operations of a library with their names, and the refusals that it gives, 0
+/// for none.
+struct Table {
+    operations: &'static [(Operation, &'static str)],
+    refusals: &'static [usize],
+}
 
-/// Refusals that the library gives, 0 for none.
-const REFUSALS: [usize; 14] = [0, 2, 3, 4, 5, 6, 7, 8, 9, 10, 11, 12, 13, 14];
+const ROWS: Table = Table {
+    operations: &[
+        (Operation::Digest, "digest"),
+        (Operation::Row, "row"),
+        (Operation::Produce, "produce"),
+        (Operation::Check, "check"),
+        (Operation::Pack, "pack"),
+        (Operation::Unpack, "unpack"),
+    ],
+    refusals: &[0, 2, 3, 4, 5, 6, 7, 8, 9, 10, 11, 12, 13, 14],
+};
+
+const PASSAGES: Table = Table {
+    operations: &[
+        (Operation::PassageRead, "read"),
+        (Operation::PassageWrite, "write"),
+        (Operation::PassageSeal, "seal"),
+        (Operation::PassageCheck, "check"),
+    ],
+    refusals: &[0, 15, 16, 17, 4, 5, 6, 7, 8, 9],
+};
 
 #[derive(Default)]
 pub struct Tally {
     /// Calls by operation and by the judge's refusal, 0 for none.
-    calls: [[u64; 15]; 6],
+    calls: [[u64; 18]; 10],
     /// Other things counted, by their name.
     counts: BTreeMap<&'static str, u64>,
     /// Rows seen as the failing one: the record's bits and the row number.
@@ -76,21 +97,29 @@ impl Tally {
     }
 }
 
-impl fmt::Display for Tally {
-    fn fmt(&self, f: &mut fmt::Formatter<'_>) -> fmt::Result {
-        writeln!(f, "answers compared, by the refusal (0: none)")?;
+impl Tally {
+    fn show(&self, table: &Table, name: &str, f: &mut fmt::Formatter<'_>) -> fmt::Result {
+        writeln!(f, "answers of {name} compared, by the refusal (0: none)")?;
         write!(f, "{:8}", "")?;
-        for refusal in REFUSALS {
+        for refusal in table.refusals {
             write!(f, "{refusal:>9}")?;
         }
         writeln!(f)?;
-        for (operation, name) in OPERATIONS {
+        for &(operation, name) in table.operations {
             write!(f, "{name:8}")?;
-            for refusal in REFUSALS {
+            for &refusal in table.refusals {
                 write!(f, "{:>9}", self.calls[operation as usize][refusal])?;
             }
             writeln!(f)?;
         }
+        Ok(())
+    }
+}
+
+impl fmt::Display for Tally {
+    fn fmt(&self, f: &mut fmt::Formatter<'_>) -> fmt::Result {
+        self.show(&ROWS, "the row library", f)?;
+        self.show(&PASSAGES, "the passage library", f)?;
         for (name, count) in &self.counts {
             writeln!(f, "{count:>10}  {name}")?;
         }

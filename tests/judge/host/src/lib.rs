@@ -1,7 +1,9 @@
-//! A host of the C library: the six functions of `include/sm3rows.h` and
-//! OpenSSL's SM3, on slices. All unsafe code of the comparison is here.
+//! A host of the two C libraries: the six functions of `include/sm3rows.h`, the
+//! four of `include/passage.h` and OpenSSL's SM3, on slices. All unsafe code of
+//! the comparison is here.
 
 pub mod openssl;
+pub mod passage;
 
 use std::ptr;
 
@@ -71,8 +73,8 @@ impl Empty {
     }
 }
 
-// Each call lends slices that live through it, and none overlaps `out`, which
-// the borrows of the arguments see to.
+// Each call, those of `passage` too, lends slices that live through it, and none
+// overlaps one that is written, which the borrows of the arguments see to.
 
 pub fn digest(empty: Empty, bits: u64, record: &[u8], out: &mut [u8]) -> u64 {
     let (from, to) = (empty.of(record), empty.of_mut(out));
