@@ -140,6 +140,64 @@ fn answer(fields: &Fields) -> u64 {
     lane << 8 | time << 18 | class << 52 | axles << 56
 }
 
+// ---- Both sides held against each other ----
+
+/// Bytes that some places allow, and bytes beside them.
+const BORDERS: &[u8] = b"-,/09:@AZ[`afg";
+
+/// Numbers of any size in places, and up to two other bytes in the plate and up
+/// to two in the blind.
+fn disturb(fields: &mut Fields, random: &mut Random) {
+    for number in &mut fields.numbers {
+        match random.below(12) {
+            0 => *number = random.below(3),
+            1 => *number += 1 << random.below(63),
+            _ => (),
+        }
+    }
+    for bytes in [&mut fields.plate[..], &mut fields.blind[..]] {
+        for _ in 0..random.below(6).saturating_sub(3) {
+            bytes[random.below(bytes.len() as u64) as usize] = random.one_of(BORDERS);
+        }
+    }
+}
+
+/// Reading lines with up to three other bytes, one in eight of another length.
+fn agree_on_reading() {
+    let mut random = Random(11);
+    for mut fields in batch() {
+        fields.numbers[0] *= random.below(8).min(1);
+        fields.numbers[3] -= if random.below(8) == 0 { 2 } else { 0 };
+        let mut line = [fields.line().as_slice(), b"0"].concat();
+        for _ in 0..random.below(4) {
+            line[random.below(63) as usize] = random.one_of(BORDERS);
+        }
+        let lent = &line[..63 + random.below(8).saturating_sub(6) as usize];
+        assert_eq!(read_ours(lent), baseline::read(lent), "{lent:?}");
+    }
+}
+
+/// Writing fields that may be wrong in several ways, into buffers of which some
+/// are short.
+fn agree_on_writing() {
+    let mut random = Random(12);
+    for mut fields in batch() {
+        disturb(&mut fields, &mut random);
+        let Fields {
+            numbers,
+            plate,
+            blind,
+        } = &fields;
+        let (room, plate) = (60 + random.below(6), &plate[random.below(8) as usize / 7..]);
+        let (mut ours, mut theirs) = ([0xa5; 66], [0xa5; 66]);
+        let both = [
+            write_ours(*numbers, plate, blind, &mut ours[..room as usize]),
+            baseline::write(*numbers, plate, blind, &mut theirs[..room as usize]),
+        ];
+        assert!(both[0] == both[1] && ours == theirs, "{numbers:?} {both:?}");
+    }
+}
+
 // ---- Reading and writing ----
 
 /// A measure whose sides go through a batch in each call: the times of a line.
@@ -170,6 +228,7 @@ fn reading(measure: &'static str, lines: &[(Line, u64)], runs: u32) -> Vec<Figur
 
 /// Reading right lines.
 pub fn read(runs: u32) -> Vec<Figure> {
+    agree_on_reading();
     let right = |fields: &Fields| (fields.line(), answer(fields));
     let lines: Vec<_> = batch().iter().map(right).collect();
     reading("passage-read", &lines, runs)
@@ -221,6 +280,7 @@ fn writing(measure: &'static str, lines: &[(Fields, u64)], runs: u32) -> Vec<Fig
 
 /// Writing right lines.
 pub fn write(runs: u32) -> Vec<Figure> {
+    agree_on_writing();
     let lines: Vec<_> = batch().into_iter().map(|fields| (fields, 0)).collect();
     writing("passage-write", &lines, runs)
 }
