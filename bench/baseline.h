@@ -22,6 +22,11 @@ uint64_t baseline_pack_copied(size_t wires, const uint8_t *assignment, uint8_t *
 /* Unpacking to one uint64_t, 0 or 1, for each wire: 0, 11 or 12. */
 uint64_t baseline_unpack(size_t wires, const uint8_t *packed, size_t packed_len, uint64_t *out);
 
+/* Passage lines: as include/passage.h has passage_read and passage_write. */
+uint64_t baseline_read(const uint8_t *line, size_t line_len);
+uint64_t baseline_write(uint64_t lane, uint64_t time, uint64_t vehicle_class, uint64_t axles, const uint8_t *plate,
+                        size_t plate_len, const uint8_t *blind, size_t blind_len, uint8_t *out, size_t out_len);
+
 /* The rows as a stored sparse matrix. Sum k (A, B, C of row 0, A, B, C of row 1, ..) has the terms from ends[k] to
  * before ends[k + 1]. */
 struct baseline_rows {

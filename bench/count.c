@@ -1,6 +1,6 @@
 /* Calls to be counted by bench/count.sh, which builds and runs this: `count SIDE BITS CALLS [FEATURE]` makes so many calls
- * of one side for a record of so many bits; OpenSSL and libgcrypt take whole bytes alone. libgcrypt leaves the
- * processor's feature of that name aside. */
+ * of one side for a record of so many bits; OpenSSL and libgcrypt take whole bytes alone, and a passage line has one length,
+ * whatever the bits. libgcrypt leaves the processor's feature of that name aside. */
 
 #include <stdint.h>
 #include <stdlib.h>
@@ -10,6 +10,7 @@
 #include <openssl/evp.h>
 
 #include "baseline.h"
+#include "line.h"
 #include "record.h"
 #include "sm3rows.h"
 
@@ -61,12 +62,65 @@ static void by_c_unpack(uint64_t bits)
     baseline_unpack(SM3ROWS_WIRES(bits), packed, SM3ROWS_PACKED_BYTES(bits), assignment);
 }
 
+static void by_check(uint64_t bits)
+{
+    go_on(sm3rows_check(bits, digest, sizeof digest, (uint8_t *)assignment, SM3ROWS_ASSIGNMENT_BYTES(bits)));
+}
+
+static void by_read(uint64_t bits)
+{
+    (void)bits;
+    go_on(read_line_by(passage_read));
+}
+
+static void by_c_read(uint64_t bits)
+{
+    (void)bits;
+    go_on(read_line_by(baseline_read));
+}
+
+static void by_write(uint64_t bits)
+{
+    (void)bits;
+    go_on(write_line_by(passage_write));
+}
+
+static void by_c_write(uint64_t bits)
+{
+    (void)bits;
+    go_on(write_line_by(baseline_write));
+}
+
+static void by_seal(uint64_t bits)
+{
+    (void)bits;
+    go_on(seal_line());
+}
+
+static void by_check_line(uint64_t bits)
+{
+    (void)bits;
+    go_on(check_line());
+}
+
 static const struct {
     const char *name;
     void (*call)(uint64_t bits);
-} sides[] = {{"digest", by_digest},   {"openssl", by_openssl},   {"libgcrypt", by_libgcrypt},
-             {"produce", by_produce}, {"pack", by_pack},         {"c-pack", by_c_pack},
-             {"unpack", by_unpack},   {"c-unpack", by_c_unpack}};
+} sides[] = {{"digest", by_digest},
+             {"openssl", by_openssl},
+             {"libgcrypt", by_libgcrypt},
+             {"produce", by_produce},
+             {"check", by_check},
+             {"pack", by_pack},
+             {"c-pack", by_c_pack},
+             {"unpack", by_unpack},
+             {"c-unpack", by_c_unpack},
+             {"passage-read", by_read},
+             {"c-read", by_c_read},
+             {"passage-write", by_write},
+             {"c-write", by_c_write},
+             {"passage-seal", by_seal},
+             {"passage-check", by_check_line}};
 
 int main(int count, char **arguments)
 {
@@ -81,8 +135,10 @@ int main(int count, char **arguments)
     kind = EVP_MD_fetch(NULL, "SM3", NULL);
     context = EVP_MD_CTX_new();
     set_record(record, bits);
-    by_produce(bits); /* for packing to read, and its bytes for unpacking */
+    by_digest(bits);
+    by_produce(bits); /* for the check and packing to read, and the packed bytes for unpacking */
     by_pack(bits);
+    by_seal(bits); /* for the check of a line */
     for (size_t side = 0; side < sizeof sides / sizeof *sides; side++)
         if (strcmp(sides[side].name, arguments[1]) == 0)
             for (int call = 0; call < calls; call++)

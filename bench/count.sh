@@ -1,21 +1,24 @@
 #!/bin/sh
 # Counts by cachegrind, which no busy machine disturbs: the instructions of a digest on each side, those of records that end
 # inside a byte beside those of whole bytes, those of the producer's blocks with the lines that are missed by caches as
-# large as this machine's first two, and those of packing.
-# SM3ROWS_LIB names the archive; without it, it is the one that `rt staticlib sm3rows` writes.
+# large as this machine's first two, those of packing, and those of a passage line.
+# SM3ROWS_LIB and PASSAGE_LIB name the archives; without them, they are those that `rt staticlib sm3rows` and
+# `rt staticlib passage_c` write.
 set -eu
 
 root=$(cd "$(dirname "$0")/.." && pwd)
 archive=${SM3ROWS_LIB:-$root/target/staticlib/libsm3rows.a}
+passage=${PASSAGE_LIB:-$root/target/staticlib/libpassage_c.a}
 [ -f "$archive" ] || { echo "no archive: run 'rt staticlib sm3rows' first" >&2; exit 1; }
+[ -f "$passage" ] || { echo "no archive: run 'rt staticlib passage_c' first" >&2; exit 1; }
 command -v valgrind > /dev/null || { apt-get update && apt-get install -y valgrind; } > /dev/null
 echo 'int main(void) { return 0; }' | gcc -x c - -lcrypto -lgcrypt -o /dev/null 2> /dev/null ||
     { apt-get update && apt-get install -y gcc libssl-dev libgcrypt20-dev; } > /dev/null
 
 mkdir -p "$root/target/bench"
 program=$root/target/bench/count
-gcc -std=c11 -O2 -Wall -Wextra -I "$root/include" "$root/bench/count.c" "$root/bench/baseline.c" "$archive" \
-    -lcrypto -lgcrypt -o "$program"
+gcc -std=c11 -O2 -Wall -Wextra -I "$root/include" "$root/bench/count.c" "$root/bench/baseline.c" \
+    "$root/bench/passage.c" "$archive" "$passage" -lcrypto -lgcrypt -o "$program"
 first=$(getconf LEVEL1_DCACHE_SIZE),$(getconf LEVEL1_DCACHE_ASSOC),64
 second=$(getconf LEVEL2_CACHE_SIZE),$(getconf LEVEL2_CACHE_ASSOC),64
 
@@ -49,6 +52,16 @@ beside() {
         NR == 2 { printf "%-8s %6d %5d %12.0f %12.0f %7.4f\n", side, bits, whole, inside, $1, inside / $1 }'
 }
 
+# line SIDE OTHERS..: a line for a passage line's side, beside the sum of others for as many bits.
+line() {
+    name=$1
+    shift
+    for side in "$name" "$@"; do call "$side" 504; done | awk -v name="$name" -v others="$*" '
+        NR == 1 { ours = $1 }
+        NR > 1 { sum += $1 }
+        END { printf "%-13s %8.0f %8.0f %7.4f  %s\n", name, ours, sum, ours / sum, others }'
+}
+
 echo "instructions of a digest, bits       0   8120  a block more"
 digest digest
 digest openssl
@@ -75,3 +88,8 @@ for side in pack c-pack unpack c-unpack; do
         { wire[NR] = $1 / (513 + 22528 * (NR == 1 ? 1 : 16)) }
         END { printf "%-22s %7.2f %9.2f\n", side, wire[1], wire[2] }'
 done
+echo "a passage line: instructions, those of others, ratio, the others"
+line passage-read c-read
+line passage-write c-write
+line passage-seal digest produce
+line passage-check check

@@ -1,16 +1,20 @@
 #!/bin/sh
-# Times libsm3rows.a beside OpenSSL, libgcrypt, plain C and the judge, in one run. Prints a table; writes bench.csv and
-# bench.svg into target/bench, or into the folder that BENCH_OUT names. Arguments: [--runs N] [--without FEATURE]; the
-# feature, as intel-bmi2, is one of the processor's that libgcrypt leaves aside.
+# Times libsm3rows.a beside OpenSSL, libgcrypt, plain C and the judge, and libpassage_c.a beside plain C and libsm3rows.a,
+# in one run. Prints a table; writes bench.csv and bench.svg into target/bench, or into the folder that BENCH_OUT names.
+# Arguments: [--runs N] [--without FEATURE]; the feature, as intel-bmi2, is one of the processor's that libgcrypt leaves
+# aside.
 #
-# SM3ROWS_LIB names the archive; without it, it is the one that `rt staticlib sm3rows` writes. ROWS_PROGRAM names the
-# program `rows`; without it, it is target/bin/rows, and where that is missing the program is left out.
+# SM3ROWS_LIB and PASSAGE_LIB name the archives; without them, they are those that `rt staticlib sm3rows` and
+# `rt staticlib passage_c` write. ROWS_PROGRAM names the program `rows`; without it, it is target/bin/rows, and where that
+# is missing the program is left out.
 set -eu
 
 root=$(cd "$(dirname "$0")/.." && pwd)
 SM3ROWS_LIB=${SM3ROWS_LIB:-$root/target/staticlib/libsm3rows.a}
+PASSAGE_LIB=${PASSAGE_LIB:-$root/target/staticlib/libpassage_c.a}
 [ -f "$SM3ROWS_LIB" ] || { echo "no archive: run 'rt staticlib sm3rows' first" >&2; exit 1; }
-export SM3ROWS_LIB
+[ -f "$PASSAGE_LIB" ] || { echo "no archive: run 'rt staticlib passage_c' first" >&2; exit 1; }
+export SM3ROWS_LIB PASSAGE_LIB
 export CARGO_TARGET_DIR="$root/target/judge"
 out=${BENCH_OUT:-$root/target/bench}
 mkdir -p "$out"

@@ -1,4 +1,4 @@
-/* How much stack the six functions use: each is called on a thread whose stack was painted, and the lowest byte that
+/* How much stack the functions of both archives use: each is called on a thread whose stack was painted, and the lowest byte that
  * lost its paint is found afterwards. Usage: stack FILE; the longest record's claim is left in the file, as the program
  * `packed` reads it. Built and run by bench/stack.sh. */
 
@@ -10,6 +10,7 @@
 #include <string.h>
 #include <sys/mman.h>
 
+#include "line.h"
 #include "record.h"
 #include "sm3rows.h"
 
@@ -53,6 +54,31 @@ static uint64_t call_unpack(uint64_t bits)
     return sm3rows_unpack(bits, packed, SM3ROWS_PACKED_BYTES(bits), out, sizeof out);
 }
 
+/* The same of the passage product, whose lines have one length. */
+static uint64_t call_read(uint64_t bits)
+{
+    (void)bits;
+    return PASSAGE_REFUSAL(read_line_by(passage_read));
+}
+
+static uint64_t call_write(uint64_t bits)
+{
+    (void)bits;
+    return write_line_by(passage_write);
+}
+
+static uint64_t call_seal(uint64_t bits)
+{
+    (void)bits;
+    return seal_line();
+}
+
+static uint64_t call_passage_check(uint64_t bits)
+{
+    (void)bits;
+    return check_line();
+}
+
 struct job {
     uint64_t (*call)(uint64_t bits);
     uint64_t bits, answer;
@@ -90,8 +116,11 @@ static size_t used_by(uint64_t (*call)(uint64_t), uint64_t bits)
 static const struct {
     const char *name;
     uint64_t (*call)(uint64_t);
-} functions[] = {{"digest", call_digest}, {"row", call_row},   {"produce", call_produce},
-                 {"check", call_check},   {"pack", call_pack}, {"unpack", call_unpack}};
+} functions[] = {{"sm3rows_digest", call_digest},   {"sm3rows_row", call_row},
+                 {"sm3rows_produce", call_produce}, {"sm3rows_check", call_check},
+                 {"sm3rows_pack", call_pack},       {"sm3rows_unpack", call_unpack},
+                 {"passage_read", call_read},       {"passage_write", call_write},
+                 {"passage_seal", call_seal},       {"passage_check", call_passage_check}};
 enum { FUNCTIONS = sizeof functions / sizeof *functions };
 
 static void print_stack(void)
@@ -106,7 +135,7 @@ static void print_stack(void)
         }
     }
     for (size_t f = 0; f < FUNCTIONS; f++)
-        printf("%-8s at most %zu bytes of stack\n", functions[f].name, most[f]);
+        printf("%-15s at most %zu bytes of stack\n", functions[f].name, most[f]);
 }
 
 /* The claim that the last of the records left. */

@@ -1,16 +1,19 @@
 #!/bin/sh
 # Fuzzes with libFuzzer and ASan, for some seconds each: fuzz/run.sh [SECONDS], 60 without it.
-#   entry   the six functions of the archive;
+#   entry   the six functions of the row library's archive;
+#   passage the four functions of the passage product's archive, beside the row library;
 #   line    the line that the programs `rows` and `steps` read, and the shape of what they print;
 #   packed  the line and the bytes that the program `packed` reads, and what it prints.
-# SM3ROWS_LIB names the archive; without it, it is the one that `rt staticlib sm3rows` writes. The programs are the
-# objects that `rt check rows steps packed` leaves.
+# SM3ROWS_LIB and PASSAGE_LIB name the archives; without them, they are those that `rt staticlib sm3rows` and
+# `rt staticlib passage_c` write. The programs are the objects that `rt check rows steps packed` leaves.
 set -eu
 
 root=$(cd "$(dirname "$0")/.." && pwd)
 seconds=${1:-60}
 archive=${SM3ROWS_LIB:-$root/target/staticlib/libsm3rows.a}
+passage=${PASSAGE_LIB:-$root/target/staticlib/libpassage_c.a}
 [ -f "$archive" ] || { echo "no archive: run 'rt staticlib sm3rows' first" >&2; exit 1; }
+[ -f "$passage" ] || { echo "no archive: run 'rt staticlib passage_c' first" >&2; exit 1; }
 work=$root/target/fuzz
 mkdir -p "$work"
 
@@ -38,12 +41,13 @@ build() {
 # clang's runtime for the sanitizers is a package of its own on some systems.
 build entry "$root/fuzz/lent.c" "$archive" 2> /dev/null ||
     { install "libclang-rt-$(clang -dumpversion | cut -d. -f1)-dev" && build entry "$root/fuzz/lent.c" "$archive"; }
+build passage "$root/fuzz/lent.c" "$passage" "$archive"
 build line "$root/fuzz/program.c" "$work/rows.o" "$work/steps.o"
 build packed "$root/fuzz/program.c" "$work/packed.o" "$archive"
 
 # One input for each function, some for records of 37, 447, 448 and 8,127 bits and for their refusals, and some lines, to
 # begin with; claims to `packed` are made by its harness.
-mkdir -p "$work/entry.corpus" "$work/line.corpus" "$work/packed.corpus"
+mkdir -p "$work/entry.corpus" "$work/passage.corpus" "$work/line.corpus" "$work/packed.corpus"
 printf '\000\000\000\030\000\040\000\000\000abcabc' > "$work/entry.corpus/digest"
 printf '\000\000\000\045\000\040\000\000\000abcde' > "$work/entry.corpus/inside"
 printf '\000\000\000\045\300\040\000\000\000abcde' > "$work/entry.corpus/bytes"
@@ -57,6 +61,12 @@ printf '\002\166\007\000\200\000\000\000abcde' > "$work/entry.corpus/longest"
 printf '\003\000\000\045\000\001\000\000\002\001\000\003abcabc' > "$work/entry.corpus/check"
 printf '\004\000\000\045\000\001\000\000\002\001\000\003abcabc' > "$work/entry.corpus/pack"
 printf '\005\000\000\045\000\005\200\000' > "$work/entry.corpus/unpack"
+printf '\000\000\004abcdefghijklmnopqrstuvwxyz0123456789' > "$work/passage.corpus/read"
+printf '\000\206\004abcdefghijklmnopqrstuvwxyz0123456789' > "$work/passage.corpus/wrong"
+printf '\001\000\000\004abcdefghijklmnopqrstuvwxyz0123456789' > "$work/passage.corpus/write"
+printf '\002\000\000\004abcdefghijklmnopqrstuvwxyz0123456789' > "$work/passage.corpus/seal"
+printf '\003\000\000\004abcdefghijklmnopqrstuvwxyz0123456789' > "$work/passage.corpus/check"
+printf '\003\000\002\004abcdefghijklmnopqrstuvwxyz0123456789' > "$work/passage.corpus/changed"
 printf '\000\200\2000,0,2\n' > "$work/line.corpus/rows"
 printf '\001\200\20037,291,4\n' > "$work/line.corpus/steps"
 printf '\000\200\2008128,0,0\n' > "$work/line.corpus/refused"
@@ -67,7 +77,7 @@ printf '\000\200\200%s,%064d\n' 0 0 > "$work/packed.corpus/empty"
 # In the folder of the work, where a crashing input is then written. A claim of one block to `packed` has up to 75 + 2,881
 # bytes, and inputs are that long from the start.
 cd "$work"
-for harness in entry line packed; do
+for harness in entry passage line packed; do
     case $harness in
     packed) sizes='-max_len=3100 -len_control=0' ;;
     *) sizes=-max_len=1200 ;;

@@ -18,6 +18,19 @@ extern "C" {
     fn baseline_pack(wires: usize, assignment: *const u8, out: *mut u8) -> u64;
     fn baseline_pack_copied(wires: usize, assignment: *const u8, out: *mut u8) -> u64;
     fn baseline_unpack(wires: usize, packed: *const u8, packed_len: usize, out: *mut u64) -> u64;
+    fn baseline_read(line: *const u8, line_len: usize) -> u64;
+    fn baseline_write(
+        lane: u64,
+        time: u64,
+        vehicle_class: u64,
+        axles: u64,
+        plate: *const u8,
+        plate_len: usize,
+        blind: *const u8,
+        blind_len: usize,
+        out: *mut u8,
+        out_len: usize,
+    ) -> u64;
     fn baseline_check(
         matrix: *const RowsOfC,
         digest: *const [u8; 32],
@@ -55,6 +68,29 @@ pub fn unpack(length: Length, packed: &[u8], out: &mut [u64]) -> u64 {
     let wires = length.wires();
     assert!(out.len() >= wires);
     unsafe { baseline_unpack(wires, packed.as_ptr(), packed.len(), out.as_mut_ptr()) }
+}
+
+// A passage line takes so little time that the call of a wrapper counts. That of
+// the crate `host` is a call, so these are.
+
+/// A passage line read.
+#[inline(never)]
+pub fn read(line: &[u8]) -> u64 {
+    unsafe { baseline_read(line.as_ptr(), line.len()) }
+}
+
+/// A passage line written; the numbers are lane, time, class and axles.
+#[inline(never)]
+pub fn write(numbers: [u64; 4], plate: &[u8], blind: &[u8], out: &mut [u8]) -> u64 {
+    let [lane, time, class, axles] = numbers;
+    let (to, room) = (out.as_mut_ptr(), out.len());
+    let (of_plate, plates) = (plate.as_ptr(), plate.len());
+    let (of_blind, blinds) = (blind.as_ptr(), blind.len());
+    unsafe {
+        baseline_write(
+            lane, time, class, axles, of_plate, plates, of_blind, blinds, to, room,
+        )
+    }
 }
 
 /// The rows as a stored sparse matrix, built once outside the timing.

@@ -1,5 +1,5 @@
 //! The speed of libsm3rows.a beside OpenSSL, libgcrypt, plain C and the judge,
-//! in one run:
+//! and of libpassage_c.a beside plain C and libsm3rows.a, in one run:
 //! `bench [--runs N] [--csv FILE] [--program FILE] [--without FEATURE]`.
 
 mod baseline;
@@ -7,6 +7,7 @@ mod inside;
 mod libgcrypt;
 mod measures;
 mod packing;
+mod passages;
 mod timing;
 
 use std::fmt::Write;
@@ -80,8 +81,8 @@ fn target(measure: &str, side: &str) -> Option<f64> {
 
 fn print_heading() {
     println!(
-        "{:14} {:>6} {:>6} {:>12} {:>12}  {:17} {:>6}  target",
-        "measure", "bits", "blocks", "sm3rows us", "other us", "other side", "ratio"
+        "{:19} {:>6} {:>6} {:>12} {:>12}  {:17} {:>6}  target",
+        "measure", "bits", "blocks", "ours us", "other us", "other side", "ratio"
     );
 }
 
@@ -105,7 +106,7 @@ fn print_measure(figures: &[Figure]) {
             None => String::from("-"),
         };
         println!(
-            "{:14} {:>6} {:>6} {:>12.2} {:>12.2}  {:17} {ratio:>6.2}  {target}",
+            "{:19} {:>6} {:>6} {:>12.3} {:>12.3}  {:17} {ratio:>6.2}  {target}",
             ours.measure,
             ours.bits,
             ours.blocks,
@@ -165,13 +166,14 @@ fn print_rates(figures: &[Figure], measure: &str) {
 }
 
 /// What stands below the table.
-fn print_over_blocks(figures: &[Figure]) {
+fn print_below(figures: &[Figure]) {
     let same_memory = "produce, in the same memory";
     print_growth(figures, "produce", "produce");
     print_growth(figures, measures::SAME_MEMORY, same_memory);
     print_growth(figures, "check", "check");
     print_rates(figures, "pack");
     print_rates(figures, "unpack");
+    passages::print_rates(figures);
 }
 
 fn csv(figures: &[Figure]) -> String {
@@ -227,6 +229,15 @@ fn measure_all(runs: u32) -> Vec<Figure> {
         packing::pack_shifted(&OTHER_CLAIMS, runs),
     ];
     packing.into_iter().flatten().for_each(&mut take);
+    let passages = [
+        passages::read(runs),
+        passages::read_wrong(runs),
+        passages::write(runs),
+        passages::write_wrong(runs),
+        passages::seal(runs),
+        passages::check(runs),
+    ];
+    passages.into_iter().for_each(&mut take);
     all.extend(measures::growth(&GROWTH, runs));
     all
 }
@@ -253,7 +264,7 @@ fn main() -> ExitCode {
         libgcrypt::version()
     );
     let figures = measure_all(options.runs);
-    print_over_blocks(&figures);
+    print_below(&figures);
     if let Some(program) = options.program {
         match measures::lines_a_second(Path::new(&program)) {
             Ok(lines) => println!("rows          {lines:.0} lines a second"),
