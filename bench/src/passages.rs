@@ -3,6 +3,7 @@
 
 use std::cell::RefCell;
 
+use host::passage::{self, Numbers};
 use host::Empty;
 use judge::length::Length;
 use judge::record::Record;
@@ -30,19 +31,26 @@ type Line = [u8; 63];
 // ---- The calls of the C library ----
 
 fn read_ours(line: &[u8]) -> u64 {
-    host::passage_read(Empty::Null, line)
+    passage::read(Empty::Null, line)
 }
 
 fn write_ours(numbers: [u64; 4], plate: &[u8], blind: &[u8], out: &mut [u8]) -> u64 {
-    host::passage_write(Empty::Null, numbers, plate, blind, out)
+    let [lane, time, class, axles] = numbers;
+    let numbers = Numbers {
+        lane,
+        time,
+        class,
+        axles,
+    };
+    passage::write(Empty::Null, numbers, plate, blind, out)
 }
 
 fn seal_ours(line: &[u8], digest: &mut [u8], assignment: &mut [u8]) -> u64 {
-    host::passage_seal(Empty::Null, line, digest, assignment)
+    passage::seal(Empty::Null, line, digest, assignment)
 }
 
 fn check_ours(digest: &[u8], assignment: &[u8]) -> u64 {
-    host::passage_check(Empty::Null, digest, assignment)
+    passage::check(Empty::Null, digest, assignment)
 }
 
 // ---- Lines ----

@@ -10,6 +10,7 @@ use borrow.Author.Tests.{eq-eqb, eqb-false, eqb-true, le-ltb, lt-ltb, ltb-false,
 use lib.Dec.{eqb, ltb}
 use lib.ListN.{getD, length}
 use Rattle.encoding.proofs.Lowest as failing
+use Rattle.passage.proofs.Next.{neither}
 use Rattle.passage.proofs.Numerals.{number-below}
 use Rattle.passage.proofs.Places.{run, run-allowed}
 use Rattle.passage.proofs.Stops.{Stops, lowest-stops, stopped}
@@ -32,12 +33,6 @@ use Rattle.text.specs.Text.{comma}
 -- all bytes are what their places allow
 abbrev pub AllAllowed : List ℕ → Type 0
 AllAllowed s = failing.AllHold (allowedAt s) 0 lineLength
-
--- neither of two tests refuses
-neither : (t u : Bool) (r : Refusal) → cond (t || u) (Refused r) Done ≡ Done → (t ≡ false) × (u ≡ false)
-neither true u r e = absurd (refused-done r e)
-neither false true r e = absurd (refused-done r e)
-neither false false r e = (refl, refl)
 
 module _ (s : List ℕ) where
   -- the answer past 16

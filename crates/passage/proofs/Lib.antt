@@ -1,10 +1,14 @@
 pub mod Answers
 pub mod ByParts
+pub mod Exact
 pub mod LineNumbers
 pub mod LineParts
+pub mod Next
 pub mod Numerals
 pub mod Places
+pub mod Plates
 pub mod RoundTrip
+pub mod Sealed
 pub mod Sealing
 pub mod Stops
 pub mod Values

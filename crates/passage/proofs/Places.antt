@@ -57,11 +57,11 @@ pub run-allowed : {kind : Kind} {from to : ℕ} → Run kind from to → (s : Li
 run-allowed places s k low high = ap (λ kind. fits kind s k) (places k low high)
 
 -- the plate's places
-plate-first : Run PlateFirst 20 21
+pub plate-first : Run PlateFirst 20 21
 unfolding kindAt
 plate-first = run PlateFirst 20 1 refl
 
-plate-next : Run PlateNext 21 30
+pub plate-next : Run PlateNext 21 30
 unfolding kindAt
 plate-next = run PlateNext 21 9 refl
 

@@ -2,13 +2,13 @@
 -- in it as they are. A line that is read has digits where its numbers stand and commas between its fields, so the line of its fields has
 -- the same byte at every place.
 use mathlib.Core.Bool.{cond, not}
-use mathlib.Core.List.{List, _++_}
+use mathlib.Core.List.{List}
 use mathlib.Core.Logic.{_↔_}
 use mathlib.Core.Path.{_≡_, _∙_, ap, ap₂, refl, subst, sym}
-use Prim.Native.Nat.{ℕ, _+_, _<_, _≤_}
+use Prim.Native.Nat.{ℕ, _+_, _<_}
 use native.Mathlib.Nat.{le-of-eq}
 use native.Mathlib.Omega.{arith}
-use borrow.Author.Tests.{eq-eqb, eqb-true, le-ltb}
+use borrow.Author.Tests.{le-ltb}
 use lib.Dec.{eqb, ltb}
 use lib.ListN.{drop, getD, length, length-drop, take}
 use lib.Seq.{ext-getD, getD-drop, getD-take, length-take-le, take-all, take-at}
@@ -16,26 +16,22 @@ use Rattle.passage.proofs.Answers.{AllAllowed, axles-digits, class-digi
 use Rattle.passage.proofs.ByParts.{by-parts}
 use Rattle.passage.proofs.LineNumbers.{allowed-fit, axles-in, class-in, lane-in, time-in}
 use Rattle.passage.proofs.LineParts.{axles-part, blind-part, class-part, lane-part, length-line, part-at, part-comma, plate-part, time-part}
+use Rattle.passage.proofs.Next.{next-done}
 use Rattle.passage.proofs.Numerals.{numeral-number}
 use Rattle.passage.specs.Format.{axles, blind, bytesIn, class, kindAt, lineLength, numberIn, plate}
 use Rattle.passage.specs.Front.{Fit}
-use Rattle.passage.specs.Read.{bytesAnswer, lineAnswer, next, numbersIn, readAnswer}
+use Rattle.passage.specs.Read.{bytesAnswer, next, numbersIn, readAnswer}
 use Rattle.passage.specs.RoundTrip.{RoundTrip, lineLeft}
 use Rattle.passage.specs.Write.{lineOf, writeAnswer, writeLeft}
 use Rattle.passage.specs.declared.format.Kind.the-variants.{Comma}
 use Rattle.passage.specs.declared.numbers.Numbers.{Numbers}
-use Rattle.passage.specs.declared.read.Reading.the-variants.{Given, Refused as NotRead}
+use Rattle.passage.specs.declared.read.Reading.the-variants.{Given}
 use Rattle.passage.specs.declared.read.Reading.{Reading}
-use Rattle.refusal.proofs.Tests.{equal-iff, past, refused-done}
+use Rattle.refusal.proofs.Tests.{equal-iff, past}
 use Rattle.refusal.specs.declared.outcome.Outcome.the-variants.{Done, Refused}
 use Rattle.refusal.specs.declared.outcome.Outcome.{Outcome}
 use Rattle.refusal.specs.declared.outcome.Refusal.the-variants.{BufferTooShort, LineNot63}
 use Rattle.text.specs.Text.{comma}
-
--- what was asked first was not refused, and nor was what came next
-next-done : (o more : Outcome) → (next o Refused more ≡ Done) ↔ ((o ≡ Done) × (more ≡ Done))
-next-done Done more = (λ e. (refl, e), λ h. h .1)
-next-done (Refused r) more = (λ e. absurd (refused-done r e), λ h. absurd (refused-done r (h .0)))
 
 -- a line is written where plate and blind are as long as they have to be, its bytes are right and it has room
 write-done : (n : Numbers) (p b : List ℕ) (room : ℕ)

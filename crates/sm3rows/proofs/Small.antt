@@ -23,7 +23,6 @@ use Rattle.record.specs.declared.row.RowAnswer.{RowAnswer}
 use Rattle.refusal.proofs.Small.{Small, bare, done-small, room-small, tested}
 use Rattle.refusal.specs.declared.outcome.Outcome.the-variants.{Done}
 use Rattle.refusal.specs.declared.outcome.Outcome.{Outcome}
-use Rattle.refusal.specs.declared.outcome.Refusal.{Refusal}
 use Rattle.satisfaction.specs.Lowest.{lowest}
 use Rattle.sm3.specs.Digest.{digestAnswer}
 use Rattle.sm3.specs.Handed.{handedAnswer}
