@@ -1,5 +1,4 @@
--- What holds at the places of each field and at each comma holds at all 63 places of a line; and two lines whose commas stand and whose
--- fields agree are one.
+-- What holds at the places of each field and at each comma holds at all 63 places of a line.
 use mathlib.Core.Logic.{by-cases}
 use mathlib.Core.Path.{_≡_, subst}
 use Prim.Native.Nat.{ℕ, _+_, _-_, _<_, _≤_}
@@ -8,7 +7,7 @@ use native.Mathlib.Omega.{arith}
 
 module _ (P : ℕ → Type 0) where
   -- P holds at the m places from `at` on
-  abbrev pub Along : ℕ → ℕ → Type 0
+  abbrev Along : ℕ → ℕ → Type 0
   Along at m = (i : ℕ) → i < m → P (at + i)
 
   -- a field and the comma behind it, and what stands behind that

@@ -27,7 +27,7 @@ module _ {s : List ℕ} {at m : ℕ} {xs rest : List ℕ} (part : Part s at m xs
   part-comma = sym (getD-drop at s m 0) ∙ ap (λ t. getD t m 0) (part .stands) ∙ getD-at xs comma rest 0 m (part .size)
 
   -- what stands behind the comma
-  pub part-behind : drop (at + (m + 1)) s ≡ rest
+  part-behind : drop (at + (m + 1)) s ≡ rest
   part-behind =
       sym (drop-drop (m + 1) at s)
       ∙ ap (drop (m + 1)) (part .stands ∙ sym (append-assoc xs (comma ∷ []) rest))

@@ -80,12 +80,6 @@ no-first-digit (suc n) x above =
     ap isDigit (before-last (suc n) (x / 10) (digit (x % 10)) 0 (omega arith))
     ∙ no-first-digit n (x / 10) (omega (arith, pow-suc 10 (suc n)))
 
-pub numeral-digits : (n x : ℕ) → x < 10 ^ n → Digits (numeral n x) 0 n
-numeral-digits zero x below i l = absurd (omega arith)
-numeral-digits (suc n) x below zero l = first-digit n x below
-numeral-digits (suc n) x below (suc i) l =
-    ap (λ j. isDigit (getD (numeral (suc n) x) j 0)) (zero-add (suc i)) ∙ digits-behind (suc n) x (suc i) (omega arith) l
-
 -- Numbers read.
 pub number-same : (s t : List ℕ) (a b n : ℕ) → ((i : ℕ) → i < n → getD s (a + i) 0 ≡ getD t (b + i) 0)
     → numberFrom s a n ≡ numberFrom t b n
