@@ -12,7 +12,7 @@ use lib.ListN.{getD, length}
 use Rattle.encoding.proofs.Lowest as failing
 use Rattle.passage.proofs.Next.{neither}
 use Rattle.passage.proofs.Numerals.{number-below}
-use Rattle.passage.proofs.Places.{run, run-allowed}
+use Rattle.passage.proofs.PlaceKinds.{run, run-allowed}
 use Rattle.passage.proofs.Stops.{Stops, lowest-stops, stopped}
 use Rattle.passage.specs.Format.{allowedAt, allows, axles, kindAt, lane, lineLength, numberIn}
 use Rattle.passage.specs.Front.{Fit}

@@ -9,7 +9,7 @@ use lib.Dec.{eqb}
 use lib.ListN.{getD, length}
 use Rattle.passage.proofs.Answers.{AllAllowed, axles-digits, bytes-right, class-digits, comma-at, done-read, lane-digits, line-right, long-line, read-done, right-allowed, right-axles, right-lane, time-digits}
 use Rattle.passage.proofs.ByParts.{by-parts}
-use Rattle.passage.proofs.Places.{plate-first, plate-next, run, run-allowed}
+use Rattle.passage.proofs.PlaceKinds.{plate-first, plate-next, run, run-allowed}
 use Rattle.passage.proofs.Plates.{form-first, form-follows, plate-form}
 use Rattle.passage.specs.Exact.{Every, PassageLine, ReadExactly}
 use Rattle.passage.specs.Format.{allowedAt, allows, follows, isPlateByte, kindAt, numberFrom}

@@ -5,7 +5,7 @@ pub mod LineNumbers
 pub mod LineParts
 pub mod Next
 pub mod Numerals
-pub mod Places
+pub mod PlaceKinds
 pub mod Plates
 pub mod RoundTrip
 pub mod Sealed

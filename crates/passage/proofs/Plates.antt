@@ -12,11 +12,11 @@ use lib.Dec.{eqb}
 use lib.ListN.{getD}
 use Rattle.passage.specs.Exact.{Every, PlateForm}
 use Rattle.passage.specs.Format.{follows, hyphen, isPlateByte}
-use Rattle.text.specs.Decimal.{isDigit}
+use Rattle.text.specs.Decimal.{isDigit, isDigitOr}
 
 -- a `-` is no letter and no digit
 hyphen-no-letter : (c : ℕ) → isPlateByte c ≡ true → c ≡ hyphen → ⊥
-unfolding isPlateByte isDigit
+unfolding isPlateByte isDigitOr isDigit
 hyphen-no-letter c letter e = true≢false (sym letter ∙ ap isPlateByte e)
 
 -- what may follow and is no `-`

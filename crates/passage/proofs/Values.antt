@@ -15,7 +15,7 @@ use lib.Seq.{getD-drop}
 use Rattle.encoding.proofs.Lowest.{AllHold}
 use Rattle.passage.proofs.LineParts.{Part, axles-part, blind-part, class-part, lane-part, part-at, part-comma, plate-part, time-part}
 use Rattle.passage.proofs.Numerals.{digits-behind, first-digit, no-first-digit}
-use Rattle.passage.proofs.Places.{run, run-allowed}
+use Rattle.passage.proofs.PlaceKinds.{run, run-allowed}
 use Rattle.passage.specs.Format.{allowedAt, allows, isPlateByte, kindAt}
 use Rattle.passage.specs.Runs.{Run}
 use Rattle.passage.specs.Values.{Values}

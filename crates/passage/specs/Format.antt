@@ -8,7 +8,7 @@ use lib.Dec.{eqb, leb, ltb}
 use lib.ListN.{drop, getD, take}
 use Rattle.passage.specs.declared.format.Kind.the-variants.{Digit, Class, PlateFirst, PlateNext, Hex, Comma}
 use Rattle.passage.specs.declared.format.Kind.{Kind}
-use Rattle.text.specs.Decimal.{isDigit}
+use Rattle.text.specs.Decimal.{isDigit, isDigitOr}
 use Rattle.text.specs.Hex.{isHex}
 use Rattle.text.specs.Text.{comma}
 
@@ -17,32 +17,39 @@ pub record Field : Type 0 where
   pub first : ℕ
   pub many : ℕ
 
-abbrev pub lineLength : ℕ
-lineLength = 63
-
+-- "lane (3 digits, from 001)"
 abbrev pub lane : Field
 lane = record { first = 0; many = 3 }
 
+-- "time (10 digits, seconds since 1970 UTC)"
 abbrev pub time : Field
 time = record { first = 4; many = 10 }
 
+-- "class (1 to 9)"
 abbrev pub class : Field
 class = record { first = 15; many = 1 }
 
+-- "axles (2 digits, from 02)"
 abbrev pub axles : Field
 axles = record { first = 17; many = 2 }
 
+-- "plate (10 places, ..)"
 abbrev pub plate : Field
 plate = record { first = 20; many = 10 }
 
+-- "blind (32 lower-case hexadecimal digits)"
 abbrev pub blind : Field
 blind = record { first = 31; many = 32 }
+
+-- "one line of 63 bytes"
+abbrev pub lineLength : ℕ
+lineLength = 63
 
 -- place k is one of the field's
 abbrev pub within : Field → ℕ → Bool
 within f k = leb (f .first) k && ltb k (f .first + f .many)
 
--- the kind of each place: "parted by commas"
+-- the kind of each place: the fields' places, "parted by commas"
 unfoldable pub kindAt : ℕ → Kind
 kindAt k =
     cond (within lane k) Digit
@@ -59,7 +66,7 @@ hyphen = 45
 
 -- "A to Z and 0 to 9"
 unfoldable pub isPlateByte : ℕ → Bool
-isPlateByte c = isDigit c || (leb 65 c && leb c 90)
+isPlateByte c = isDigitOr 65 90 c
 
 -- "filled up with `-`: .. after a `-` only `-` is allowed": c may come after b
 unfoldable pub follows : ℕ → ℕ → Bool

@@ -33,7 +33,7 @@ writeAnswer n p b room =
     cond (not (eqb (length p) (plate .many))) (Refused LineNot63)
     (cond (not (eqb (length b) (blind .many))) (Refused LineNot63)
     -- "16, a byte, or in writing a field's value, that its place does not allow (.. in writing, a number too great for its digits, or
-    -- class 0, gives its field's first byte)": what place allows which value says `WrittenAllowed` of specs/Places; 17
+    -- class 0, gives its field's first byte)": what place allows which value says `Values` of specs/Values; and 17
     (next (bytesAnswer (lineOf n p b)) Refused
     -- "From here refusal 4 also covers any other written buffer shorter than its result."
     (cond (ltb room lineLength) (Refused BufferTooShort) Done)))

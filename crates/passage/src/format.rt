@@ -5,6 +5,7 @@ ghost use lib.ListN.{length};
 ghost use Rattle.passage.specs.Format.{fits, follows, isPlateByte};
 ghost use Rattle.passage.specs.Runs.{lowestFrom, plateFits};
 use text::decimal::is_digit;
+use text::decimal::is_digit_or;
 use text::hex::is_hex_digit;
 
 // The kinds of places.
@@ -27,13 +28,7 @@ pub enum Kind {
 fn is_plate_byte(c: u8) -> bool
     ensures { λ r. ⌜ r ≡ isPlateByte c ⌝ }
 {
-    if is_digit(c) {
-        return true;
-    }
-    if c < b'A' {
-        return false;
-    }
-    c <= b'Z'
+    is_digit_or(b'A', b'Z', c)
 }
 
 // Whether c may follow the byte b in a plate.

@@ -3,6 +3,7 @@ pub mod check;
 pub mod format;
 pub mod line;
 pub mod numbers;
+pub mod places;
 pub mod read;
 pub mod seal;
 pub mod write;

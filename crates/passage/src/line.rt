@@ -10,23 +10,33 @@ use crate::format::Kind;
 use crate::format::lowest_misfit;
 use crate::format::wrong_in_plate;
 use crate::numbers::number_from;
+use crate::places::AXLES;
+use crate::places::AXLES_DIGITS;
+use crate::places::BLIND;
+use crate::places::CLASS;
+use crate::places::CLASS_DIGITS;
+use crate::places::LANE;
+use crate::places::LANE_DIGITS;
+use crate::places::LAST_COMMA;
+use crate::places::LINE_LENGTH;
+use crate::places::PLATE;
+use crate::places::TIME;
+use crate::places::TIME_DIGITS;
 use refusal::numbers::ByteNumber;
 use refusal::outcome::Outcome;
 use refusal::outcome::Refusal;
 
-// The bytes of a line.
-pub const LINE_LENGTH: usize = 63;
-
-// The lowest wrong place of a field whose places are of one kind and of the comma behind it, or the place behind both.
-fn wrong_in_field(kind: Kind, line: &[u8], from: usize, to: usize) -> usize
-    requires { ⌜ (from ≤ to) × (to < length (now line)) × Run kind from to × (kindAt to ≡ Comma) ⌝ }
-    ensures { λ r. ⌜ r ≡ lowestFrom (allowedAt (now (line .entry))) from (to + 1) ⌝ }
+// The lowest wrong place of a field whose n places are of one kind and of the comma behind it, or the place behind both.
+fn wrong_in_field(kind: Kind, line: &[u8], first: usize, n: usize) -> usize
+    requires { ⌜ (first + n < length (now line)) × Run kind first (first + n) × (kindAt (first + n) ≡ Comma) ⌝ }
+    ensures { λ r. ⌜ r ≡ lowestFrom (allowedAt (now (line .entry))) first (first + n + 1) ⌝ }
 {
-    let k = lowest_misfit(kind, line, from, to);
-    if k < to {
+    let end = first + n;
+    let k = lowest_misfit(kind, line, first, end);
+    if k < end {
         return k;
     }
-    lowest_misfit(Kind::Comma, line, to, to + 1)
+    lowest_misfit(Kind::Comma, line, end, end + 1)
 }
 
 // The lowest wrong place of a line, or 63.
@@ -34,31 +44,31 @@ fn wrong_in_line(line: &[u8]) -> usize
     requires { ⌜ length (now line) ≡ 63 ⌝ }
     ensures { λ r. ⌜ r ≡ lowestFrom (allowedAt (now (line .entry))) 0 63 ⌝ }
 {
-    let lane = wrong_in_field(Kind::Digit, line, 0, 3);
-    if lane < 4 {
+    let lane = wrong_in_field(Kind::Digit, line, LANE, LANE_DIGITS);
+    if lane < TIME {
         return lane;
     }
-    let time = wrong_in_field(Kind::Digit, line, 4, 14);
-    if time < 15 {
+    let time = wrong_in_field(Kind::Digit, line, TIME, TIME_DIGITS);
+    if time < CLASS {
         return time;
     }
-    let class = wrong_in_field(Kind::Class, line, 15, 16);
-    if class < 17 {
+    let class = wrong_in_field(Kind::Class, line, CLASS, CLASS_DIGITS);
+    if class < AXLES {
         return class;
     }
-    let axles = wrong_in_field(Kind::Digit, line, 17, 19);
-    if axles < 20 {
+    let axles = wrong_in_field(Kind::Digit, line, AXLES, AXLES_DIGITS);
+    if axles < PLATE {
         return axles;
     }
-    let plate = wrong_in_plate(line, 20);
-    if plate < 30 {
+    let plate = wrong_in_plate(line, PLATE);
+    if plate < LAST_COMMA {
         return plate;
     }
-    let comma = lowest_misfit(Kind::Comma, line, 30, 31);
-    if comma < 31 {
+    let comma = lowest_misfit(Kind::Comma, line, LAST_COMMA, BLIND);
+    if comma < BLIND {
         return comma;
     }
-    lowest_misfit(Kind::Hex, line, 31, LINE_LENGTH)
+    lowest_misfit(Kind::Hex, line, BLIND, LINE_LENGTH)
 }
 
 // The refusal of a line, if there is one.
@@ -72,10 +82,10 @@ pub fn ask_line(line: &[u8]) -> Outcome
     if wrong < LINE_LENGTH {
         return Outcome::Refused(Refusal::WrongByte(ByteNumber(wrong as u64)));
     }
-    if number_from(line, 0, 3) == 0 {
+    if number_from(line, LANE, LANE_DIGITS) == 0 {
         return Outcome::Refused(Refusal::LaneOrAxlesTooLow);
     }
-    if number_from(line, 17, 2) < 2 {
+    if number_from(line, AXLES, AXLES_DIGITS) < 2 {
         return Outcome::Refused(Refusal::LaneOrAxlesTooLow);
     }
     Outcome::Done

@@ -4,6 +4,14 @@ ghost use Rattle.passage.specs.Read.{readAnswer};
 use crate::line::ask_line;
 use crate::numbers::Numbers;
 use crate::numbers::number_from;
+use crate::places::AXLES;
+use crate::places::AXLES_DIGITS;
+use crate::places::CLASS;
+use crate::places::CLASS_DIGITS;
+use crate::places::LANE;
+use crate::places::LANE_DIGITS;
+use crate::places::TIME;
+use crate::places::TIME_DIGITS;
 use refusal::outcome::Outcome;
 use refusal::outcome::Refusal;
 
@@ -21,10 +29,10 @@ pub fn read(line: &[u8]) -> Reading
     if let Outcome::Refused(refusal) = answer {
         return Reading::Refused(refusal);
     }
-    let lane = number_from(line, 0, 3);
-    let time = number_from(line, 4, 10);
-    let class = number_from(line, 15, 1);
-    let axles = number_from(line, 17, 2);
+    let lane = number_from(line, LANE, LANE_DIGITS);
+    let time = number_from(line, TIME, TIME_DIGITS);
+    let class = number_from(line, CLASS, CLASS_DIGITS);
+    let axles = number_from(line, AXLES, AXLES_DIGITS);
     Reading::Given(Numbers {
         lane,
         time,

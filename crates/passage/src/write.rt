@@ -12,38 +12,46 @@ ghost use Rattle.text.specs.Text.{comma};
 use crate::format::Kind;
 use crate::format::lowest_misfit;
 use crate::format::wrong_in_plate;
-use crate::line::LINE_LENGTH;
 use crate::numbers::Numbers;
 use crate::numbers::put_numeral;
+use crate::places::AXLES;
+use crate::places::AXLES_DIGITS;
+use crate::places::BLIND;
+use crate::places::BLIND_LENGTH;
+use crate::places::CLASS;
+use crate::places::CLASS_DIGITS;
+use crate::places::LANE;
+use crate::places::LANE_DIGITS;
+use crate::places::LAST_COMMA;
+use crate::places::LINE_LENGTH;
+use crate::places::PLATE;
+use crate::places::PLATE_LENGTH;
+use crate::places::TIME;
+use crate::places::TIME_DIGITS;
 use refusal::numbers::ByteNumber;
 use refusal::outcome::Outcome;
 use refusal::outcome::Refusal;
 
-// The bytes of a plate and of a blind.
-const PLATE_LENGTH: usize = 10;
-
-const BLIND_LENGTH: usize = 32;
-
-// The first place of the first number that is too great for its digits or class 0, or 20 where there is none.
+// The first place of the first number that is too great for its digits or class 0, or the plate's where there is none.
 fn wrong_number(numbers: Numbers) -> usize
     ensures { λ r. ⌜ ((p b : List ℕ) → r ≡ lowestFrom (allowedAt (lineOf numbers p b)) 0 20) ⌝ }
 {
     if 999 < numbers.lane {
-        return 0;
+        return LANE;
     }
     if 9999999999 < numbers.time {
-        return 4;
+        return TIME;
     }
     if numbers.class == 0 {
-        return 15;
+        return CLASS;
     }
     if 9 < numbers.class {
-        return 15;
+        return CLASS;
     }
     if 99 < numbers.axles {
-        return 17;
+        return AXLES;
     }
-    20
+    PLATE
 }
 
 // The lowest place of the line that a field does not fit, or 63.
@@ -52,14 +60,14 @@ fn wrong_value(numbers: Numbers, plate: &[u8], blind: &[u8]) -> usize
     ensures { λ r. ⌜ r ≡ lowestFrom (allowedAt (lineOf numbers (now (plate .entry)) (now (blind .entry)))) 0 63 ⌝ }
 {
     let number = wrong_number(numbers);
-    if number < 20 {
+    if number < PLATE {
         return number;
     }
     let in_plate = wrong_in_plate(plate, 0);
     if in_plate < PLATE_LENGTH {
-        return 20 + in_plate;
+        return PLATE + in_plate;
     }
-    31 + lowest_misfit(Kind::Hex, blind, 0, BLIND_LENGTH)
+    BLIND + lowest_misfit(Kind::Hex, blind, 0, BLIND_LENGTH)
 }
 
 // The bytes of s from `at` on.
@@ -86,19 +94,19 @@ fn put_numbers(numbers: Numbers, out: &mut [u8])
     requires { ⌜ Fit numbers × (20 ≤ length (now out)) ⌝ }
     ensures { λ _. ⌜ Written 0 (front numbers) (now (out .entry)) (now (out .exit)) ⌝ }
 {
-    put_number(out, 0, 3, numbers.lane);
-    put_number(out, 4, 10, numbers.time);
-    put_number(out, 15, 1, numbers.class);
-    put_number(out, 17, 2, numbers.axles);
+    put_number(out, LANE, LANE_DIGITS, numbers.lane);
+    put_number(out, TIME, TIME_DIGITS, numbers.time);
+    put_number(out, CLASS, CLASS_DIGITS, numbers.class);
+    put_number(out, AXLES, AXLES_DIGITS, numbers.axles);
 }
 
-// The plate from byte 20 on, and a comma behind it.
+// The plate at its place, and the comma behind it.
 fn put_plate(plate: &[u8], out: &mut [u8])
     requires { ⌜ (length (now plate) ≡ 10) × (31 ≤ length (now out)) ⌝ }
     ensures { λ _. ⌜ Written 20 (now (plate .entry) ++ (comma ∷ [])) (now (out .entry)) (now (out .exit)) ⌝ }
 {
-    put_bytes(out, 20, plate);
-    out[30] = b',';
+    put_bytes(out, PLATE, plate);
+    out[LAST_COMMA] = b',';
 }
 
 // The line of fields that fit their places.
@@ -108,7 +116,7 @@ fn put_line(numbers: Numbers, plate: &[u8], blind: &[u8], out: &mut [u8])
 {
     put_numbers(numbers, out);
     put_plate(plate, out);
-    put_bytes(out, 31, blind);
+    put_bytes(out, BLIND, blind);
 }
 
 // Writes the line of the fields into the front of `out`.

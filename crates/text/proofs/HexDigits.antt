@@ -13,7 +13,7 @@ use borrow.Author.Tests.{le-leb, lt-leb, leb-true, le-ltb, lt-ltb}
 use lib.Dec.{leb}
 use lib.ListN.{getD, length, List·getD-eq-default}
 use Rattle.encoding.proofs.Sequence.{Each}
-use Rattle.text.specs.Decimal.{isDigit}
+use Rattle.text.specs.Decimal.{isDigit, isDigitOr}
 use Rattle.text.specs.Hex.{allHex, hexDigit, hexValue, isHex}
 
 -- what is known of a digit
@@ -23,7 +23,7 @@ pub record HexDigit (c : ℕ) : Type 0 where
   pub is : hexDigit (hexValue c) ≡ c
 
 pub hex-digit : (c : ℕ) → isHex c ≡ true → HexDigit c
-unfolding isHex isDigit hexValue hexDigit
+unfolding isHex isDigitOr isDigit hexValue hexDigit
 hex-digit c e = by (decLt c 97)
   where
     by : Dec (c < 97) → HexDigit c
@@ -47,7 +47,7 @@ hex-digit c e = by (decLt c 97)
 
 module _ (v : ℕ) (below : v < 16) where
   pub digit-is-hex : isHex (hexDigit v) ≡ true
-  unfolding isHex isDigit hexDigit
+  unfolding isHex isDigitOr isDigit hexDigit
   digit-is-hex = by (decLt v 10)
     where
       by : Dec (v < 10) → isHex (hexDigit v) ≡ true

@@ -1,5 +1,5 @@
 -- Numbers in decimal (document 01, "What `rows` prints": "all numbers decimal").
-use mathlib.Core.Bool.{Bool, cond, _&&_}
+use mathlib.Core.Bool.{Bool, cond, _&&_, _||_}
 use mathlib.Core.List.{List, [], _∷_, _++_}
 use Prim.Native.Nat.{ℕ, zero, suc, _+_, _/_, _%_}
 use lib.Dec.{leb, ltb}
@@ -7,6 +7,10 @@ use lib.Dec.{leb, ltb}
 -- whether c is a digit in ASCII
 unfoldable pub isDigit : ℕ → Bool
 isDigit c = leb 48 c && leb c 57
+
+-- .. or a letter from one to another
+unfoldable pub isDigitOr : ℕ → ℕ → ℕ → Bool
+isDigitOr first last c = isDigit c || (leb first c && leb c last)
 
 -- the digit d in ASCII
 abbrev pub digit : ℕ → ℕ

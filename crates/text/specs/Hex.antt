@@ -5,11 +5,11 @@ use Prim.Native.Nat.{ℕ, zero, suc, _+_, _-_, _*_, _/_, _%_}
 use lib.Dec.{leb, ltb}
 use lib.ListN.{getD}
 use Rattle.encoding.specs.Sequence.{tab}
-use Rattle.text.specs.Decimal.{isDigit}
+use Rattle.text.specs.Decimal.{isDigitOr}
 
 -- whether c is a digit, 0 to 9 or a to f in ASCII
 unfoldable pub isHex : ℕ → Bool
-isHex c = isDigit c || (leb 97 c && leb c 102)
+isHex c = isDigitOr 97 102 c
 
 -- the value of a digit
 unfoldable pub hexValue : ℕ → ℕ

@@ -2,7 +2,7 @@
 ghost use mathlib.Core.Path.{_≡_};
 ghost use Prim.Native.Nat.{_+_, _≤_};
 ghost use lib.ListN.{length};
-ghost use Rattle.text.specs.Decimal.{decimal, field, isDigit};
+ghost use Rattle.text.specs.Decimal.{decimal, field, isDigit, isDigitOr};
 ghost use Rattle.text.specs.Put.{Put};
 
 // Whether c is a digit.
@@ -13,6 +13,19 @@ pub fn is_digit(c: u8) -> bool
         return false;
     }
     c <= b'9'
+}
+
+// Whether c is a digit, or a letter from `first` to `last`.
+pub fn is_digit_or(first: u8, last: u8, c: u8) -> bool
+    ensures { λ r. ⌜ r ≡ isDigitOr first last c ⌝ }
+{
+    if is_digit(c) {
+        return true;
+    }
+    if c < first {
+        return false;
+    }
+    c <= last
 }
 
 // The digits of x from `at` on.

@@ -4,19 +4,13 @@ ghost use mathlib.Core.Path.{_≡_};
 ghost use Prim.Native.Nat.{_+_, _*_, _<_};
 ghost use lib.ListN.{getD, length};
 ghost use Rattle.text.specs.Hex.{allHex, bytesOfHex, hexValue, isHex};
-use crate::decimal::is_digit;
+use crate::decimal::is_digit_or;
 
 // Whether c is a digit.
 pub fn is_hex_digit(c: u8) -> bool
     ensures { λ r. ⌜ r ≡ isHex c ⌝ }
 {
-    if is_digit(c) {
-        return true;
-    }
-    if c < b'a' {
-        return false;
-    }
-    c <= b'f'
+    is_digit_or(b'a', b'f', c)
 }
 
 // Whether n digits stand from `at` on.

@@ -1,29 +1,15 @@
--- Each return has the tests that led to it, which are those of the definition.
-use mathlib.Core.Path.{_∙_, sym}
+-- The definition is what the call ensures.
 use borrow.Author.Needs.{needs}
-use borrow.Author.Tests.{le-leb, lt-leb}
 use Rattle.passage.specs.Format.{isPlateByte}
 use Rattle.passage.proofs.format.is_plate_byte.Statement.{statement}
 use Rattle.passage.proofs.format.is_plate_byte.Tie as tie
 
-is-digit-requires : tie.Need-is-digit-requires
-is-digit-requires c κs = search needs
+is-digit-or-requires : tie.Need-is-digit-or-requires
+is-digit-or-requires c κs = search needs
 
 returns : tie.Need-returns
 unfolding isPlateByte
-returns c = simp (sym (c .before .is-digit .ensures) ∙ c .if1 .taken)
-
-returns-2 : tie.Need-returns-2
-unfolding isPlateByte
-returns-2 c =
-    let past = c .before in
-    simp (sym (past .before .is-digit .ensures) ∙ past .if1 .left, lt-leb _ _ (c .if2 .taken))
-
-returns-3 : tie.Need-returns-3
-unfolding isPlateByte
-returns-3 c =
-    let past = c .before in
-    simp (sym (past .before .is-digit .ensures) ∙ past .if1 .left, le-leb _ _ (c .if2 .left))
+returns c = c .is-digit-or .ensures
 
 pub is-plate-byte-spec : {M : Type 1} → statement M
-is-plate-byte-spec = tie.close (tie.spec is-digit-requires returns returns-2 returns-3)
+is-plate-byte-spec = tie.close (tie.spec is-digit-or-requires returns)

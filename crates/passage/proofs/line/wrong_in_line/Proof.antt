@@ -5,7 +5,7 @@ use Prim.Native.Nat.{ℕ}
 use native.Mathlib.Omega.{arith}
 use borrow.Author.Needs.{needs}
 use Rattle.encoding.proofs.Lowest.{AllHold}
-use Rattle.passage.proofs.Places.{plate-allowed, run, run-allowed}
+use Rattle.passage.proofs.PlaceKinds.{plate-allowed, run, run-allowed}
 use Rattle.passage.proofs.Stops.{passed-then, stopped, stops-as, stops-at, stops-behind, stops-short, went-through}
 use Rattle.passage.specs.Format.{allowedAt, kindAt}
 use Rattle.passage.specs.declared.format.Kind.the-variants.{Class, Comma, Digit, Hex}
@@ -22,7 +22,7 @@ Passed c to = AllHold (allowedAt (Line c)) 0 to
 
 wrong-in-field-requires : tie.Need-wrong-in-field-requires
 unfolding kindAt
-wrong-in-field-requires c κs = (omega arith, omega arith, run Digit 0 3 refl, refl)
+wrong-in-field-requires c κs = (omega arith, run Digit 0 3 refl, refl)
 
 returns : tie.Need-returns
 returns c = stopped (stops-short (omega arith) (c .if1 .taken) (stops-at (omega arith) (c .before .wrong-in-field .ensures)))
@@ -32,7 +32,7 @@ lane-passed c = went-through (stops-at (omega arith) (c .before .wrong-in-field 
 
 wrong-in-field-requires-2 : tie.Need-wrong-in-field-requires-2
 unfolding kindAt
-wrong-in-field-requires-2 c κs = (omega arith, omega arith, run Digit 4 10 refl, refl)
+wrong-in-field-requires-2 c κs = (omega arith, run Digit 4 10 refl, refl)
 
 returns-2 : tie.Need-returns-2
 returns-2 c =
@@ -47,7 +47,7 @@ time-passed c =
 
 wrong-in-field-requires-3 : tie.Need-wrong-in-field-requires-3
 unfolding kindAt
-wrong-in-field-requires-3 c κs = (omega arith, omega arith, run Class 15 1 refl, refl)
+wrong-in-field-requires-3 c κs = (omega arith, run Class 15 1 refl, refl)
 
 returns-3 : tie.Need-returns-3
 returns-3 c =
@@ -62,7 +62,7 @@ class-passed c =
 
 wrong-in-field-requires-4 : tie.Need-wrong-in-field-requires-4
 unfolding kindAt
-wrong-in-field-requires-4 c κs = (omega arith, omega arith, run Digit 17 2 refl, refl)
+wrong-in-field-requires-4 c κs = (omega arith, run Digit 17 2 refl, refl)
 
 returns-4 : tie.Need-returns-4
 returns-4 c =

@@ -6,7 +6,7 @@ use native.Mathlib.Omega.{arith}
 use borrow.Author.Needs.{needs}
 use lib.ListN.{length}
 use Rattle.encoding.proofs.Lowest.{AllHold}
-use Rattle.passage.proofs.Places.{plate-kind}
+use Rattle.passage.proofs.PlaceKinds.{plate-kind}
 use Rattle.passage.proofs.Stops.{Stops, passed-more, passed-then, stopped, stops-at, stops-behind, stops-moved, stops-short, went-through}
 use Rattle.passage.proofs.Values.{values}
 use Rattle.passage.specs.Format.{allowedAt, allows, fits}

@@ -8,7 +8,7 @@ use native.Mathlib.Omega.{arith}
 use borrow.Author.Needs.{needs}
 use borrow.Author.Tests.{not-false, not-true}
 use lib.ListN.{getD, List·getD-eq-default}
-use Rattle.text.specs.Decimal.{isDigit}
+use Rattle.text.specs.Decimal.{isDigit, isDigitOr}
 use Rattle.text.specs.Hex.{allHex, isHex}
 use Rattle.text.proofs.hex.all_hex.Statement.{statement}
 use Rattle.text.proofs.hex.all_hex.Tie as tie
@@ -50,7 +50,7 @@ loop-holds : tie.Need-loop-holds Inv-loop μ-loop
 loop-holds c = refl
 
 returns : tie.Need-returns Inv-loop μ-loop
-unfolding isHex isDigit
+unfolding isHex isDigitOr isDigit
 returns c =
     let turn = c .before in
     sym (by-byte turn false (ap isHex (List·getD-eq-default (S turn) 0 (c .if1 .taken))))
