@@ -68,11 +68,11 @@ returns-4 c =
     let a = told .before .before .before .before .before .before .args in
     let s = Line told in
     let long = line-right s .0 (right told) .0 in
-    let room : 8 * wireCount lineBits ≤ length (a .wires .now) = omega (arith, past .if2 .left, assignment-bytes) in
+    let room : 8 * wireCount lineBits ≤ length (a .assignment .now) = omega (arith, past .if2 .left, assignment-bytes) in
     let hashed = digested .digest .ensures .0 ∙ line-digested s _ long (tested .if1 .left) in
     let made = produced .produce .ensures .0 ∙ line-produced s _ long room in (
       made ∙ sym (line-sealed s _ _ (right told) (tested .if1 .left) room),
-      (digested .digest .ensures .1 ∙ ap (λ r. digestOfLine r s (a .hash .now)) (hashed ∙ sym made), produced .produce .ensures .1),
+      (digested .digest .ensures .1 ∙ ap (λ r. digestOfLine r s (a .digest .now)) (hashed ∙ sym made), produced .produce .ensures .1),
     )
 
 pub seal-spec : {M : Type 1} → statement M
