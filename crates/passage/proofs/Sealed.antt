@@ -25,10 +25,10 @@ use Rattle.refusal.specs.declared.outcome.Refusal.the-variants.{BufferTooShort}
 use Rattle.sm3.specs.Message.{digestBytes}
 
 -- what a sealed line and its buffers are
-pub record Sealed (s : List ℕ) (d a : ℕ) : Type 0 where
-  pub long : length s ≡ 63
-  pub digest-room : 32 ≤ d
-  pub assignment-room : 8 * wireCount lineBits ≤ a
+record Sealed (s : List ℕ) (d a : ℕ) : Type 0 where
+  long : length s ≡ 63
+  digest-room : 32 ≤ d
+  assignment-room : 8 * wireCount lineBits ≤ a
 
 sealed-done : (s : List ℕ) (d a : ℕ) → sealAnswer s d a ≡ Done → Sealed s d a
 unfolding sealAnswer

@@ -1,6 +1,6 @@
 // What is asked of a line before anything is made of it.
 ghost use mathlib.Core.Path.{_≡_};
-ghost use Prim.Native.Nat.{_+_, _<_, _≤_};
+ghost use Prim.Native.Nat.{_+_, _<_};
 ghost use lib.ListN.{length};
 ghost use Rattle.passage.specs.Format.{allowedAt, kindAt};
 ghost use Rattle.passage.specs.Read.{lineAnswer};
