@@ -82,7 +82,7 @@ fn put_bytes(out: &mut [u8], at: usize, s: &[u8])
 
 // The n digits of x from `at` on, and a comma behind them.
 fn put_number(out: &mut [u8], at: usize, n: usize, x: u64)
-    requires { ⌜ (at + n < length (now out)) × (x < 10 ^ n) × (0 < n) ⌝ }
+    requires { ⌜ (at + n < length (now out)) × (x < 10 ^ n) ⌝ }
     ensures { λ _. ⌜ Written at (numeral n x ++ (comma ∷ [])) (now (out .entry)) (now (out .exit)) ⌝ }
 {
     put_numeral(out, at, n, x);
