@@ -17,8 +17,9 @@ use Rattle.sm3.specs.Handed.{handedAnswer}
 use Rattle.sm3.specs.Message.{blocks}
 use Rattle.sm3.specs.Sm3.{P0, P1, constant, rotatedConstant}
 use Rattle.sm3.specs.Words.{rotateLeft}
+use Rattle.text.specs.Decimal.{isDigit}
 use Rattle.text.specs.Field.{continues, fieldFrom, fieldOf}
 
 pub figures : map (λ (f : Figure). f .computed) table ≡ map (λ (f : Figure). f .stated) table
-unfolding blocks wireCount rowCount handedAnswer spareBits number bitOfBytes rowAnswer checkAnswer entry leastFirst fromLeastFirst tab P0 P1 rotatedConstant constant rotateLeft requestOf checked parseOf fieldOf fieldFrom continues
+unfolding blocks wireCount rowCount handedAnswer spareBits number bitOfBytes rowAnswer checkAnswer entry leastFirst fromLeastFirst tab P0 P1 rotatedConstant constant rotateLeft requestOf checked parseOf fieldOf fieldFrom continues isDigit
 figures = refl
