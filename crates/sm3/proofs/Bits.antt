@@ -2,7 +2,7 @@
 -- the operands' bits, of which there are few enough to try them all.
 use mathlib.Core.Path.{_≡_, refl, sym, ap, _∙_, subst}
 use Prim.Native.Nat.{ℕ, zero, suc, _+_, _-_, _*_, _/_, _%_, _^_, _<_, min, max}
-use native.Mathlib.Nat.{add-mul, mod-lt, pow-suc}
+use native.Mathlib.Nat.{add-mul, mod-lt, pow-suc, zero-div}
 use native.Mathlib.Omega.{arith}
 use lib.Bits.{bitAnd, bitOr, bitXor, and-mod, and-shr, or-mod, or-shr, xor-mod, xor-shr}
 use lib.Pow.{high, pow-add, pow-pos, shr-lt, split}
@@ -12,6 +12,10 @@ use Rattle.sm3.specs.Words.{bit}
 pub bit-lt : (i x : ℕ) → bit i x < 2
 unfolding bit
 bit-lt i x = omega arith
+
+pub bit-zero : (i : ℕ) → bit i 0 ≡ 0
+unfolding bit
+bit-zero i = ap (λ (n : ℕ). n % 2) (zero-div (2 ^ (31 - i)))
 
 -- an operation that works on each bit apart, and what it does to two bits
 module _
@@ -44,7 +48,7 @@ bit-xor = bit-op bitXor (λ p q. (p + q) % 2) xor-shr xor-mod refl refl refl ref
 pub bit-and : (i x y : ℕ) → bit i (bitAnd x y) ≡ min (bit i x) (bit i y)
 bit-and = bit-op bitAnd min and-shr and-mod refl refl refl refl
 
-bit-or : (i x y : ℕ) → bit i (bitOr x y) ≡ max (bit i x) (bit i y)
+pub bit-or : (i x y : ℕ) → bit i (bitOr x y) ≡ max (bit i x) (bit i y)
 bit-or = bit-op bitOr max or-shr or-mod refl refl refl refl
 
 pub bit-xor-3 : (i x y z : ℕ) → bit i (x ⊕ y ⊕ z) ≡ (bit i x + bit i y + bit i z) % 2

@@ -1,5 +1,6 @@
 -- A rotated word. Its lowest 32 - k bits, moved up by k places, and its highest k bits below them are the word rotated by k. So
--- it is a word, and bit i of it is bit i + k of the word that was rotated, counted round.
+-- it is a word, and bit i of it is bit i + k of the word that was rotated, counted round. By its bits, a rotation goes into an xor, and
+-- two rotations are one.
 use mathlib.Core.Logic.{by-cases}
 use mathlib.Core.Path.{_≡_, sym, ap, ap₂, _∙_, subst, subst₂}
 use Prim.Native.Nat.{ℕ, suc, _+_, _-_, _*_, _/_, _%_, _^_, _≤_, _<_}
@@ -7,9 +8,12 @@ use native.Mathlib.Decide.{decLt}
 use native.Mathlib.Nat.{add-zero, mod-lt, mul-add-div-right, mul-assoc, mul-mod-left}
 use native.Mathlib.Omega.{arith}
 use lib.Arith.{digits-lt}
-use lib.Bits.{block-odd}
+use lib.Bits.{block-odd, xor-lt}
 use lib.Pow.{high, mod-pow-add, pow-add, pow-pos, shl-shr, shr-lt, shr-shr, split}
+use Rattle.sm3.specs.Sm3.{_⊕_}
 use Rattle.sm3.specs.Words.{bit, rotateLeft}
+use Rattle.sm3.proofs.Bits.{bit-xor}
+use Rattle.sm3.proofs.WordBits.{word-ext}
 
 -- what is left of a number moved up by k places, in j + k bits
 shl-mod : (x j k : ℕ) → x * 2 ^ k % 2 ^ (j + k) ≡ x % 2 ^ j * 2 ^ k
@@ -76,3 +80,22 @@ bit-rotate k i x hk hi hx =
     ∙ bit-low (x % 2 ^ (32 - k)) (x / 2 ^ (32 - k)) (31 - i) (i + k - 32)
     ∙ ap (λ (n : ℕ). n % 2) (shr-shr x (32 - k) (31 - i))
     ∙ ap (λ (n : ℕ). x / 2 ^ n % 2) (sym back)))
+
+pub rotate-xor : (k x y : ℕ) → k ≤ 32 → x < 2 ^ 32 → y < 2 ^ 32 → rotateLeft k (x ⊕ y) ≡ rotateLeft k x ⊕ rotateLeft k y
+rotate-xor k x y h hx hy =
+    let both : x ⊕ y < 2 ^ 32 = xor-lt 32 x y hx hy in
+    word-ext _ _ (rotate-lt k (x ⊕ y) h both) (xor-lt 32 _ _ (rotate-lt k x h hx) (rotate-lt k y h hy))
+    (λ i l.
+    bit-rotate k i (x ⊕ y) h l both ∙ bit-xor ((i + k) % 32) x y
+    ∙ sym
+    (bit-xor i (rotateLeft k x) (rotateLeft k y)
+    ∙ ap₂ (λ (p q : ℕ). (p + q) % 2) (bit-rotate k i x h l hx) (bit-rotate k i y h l hy)))
+
+pub rotate-rotate : (k m x : ℕ) → k + m ≤ 32 → x < 2 ^ 32 → rotateLeft k (rotateLeft m x) ≡ rotateLeft (k + m) x
+rotate-rotate k m x h hx =
+    let once : rotateLeft m x < 2 ^ 32 = rotate-lt m x (omega arith) hx in
+    word-ext _ _ (rotate-lt k (rotateLeft m x) (omega arith) once) (rotate-lt (k + m) x h hx)
+    (λ i l.
+    let place : ((i + k) % 32 + m) % 32 ≡ (i + (k + m)) % 32 = omega arith in
+    bit-rotate k i (rotateLeft m x) (omega arith) l once ∙ bit-rotate m ((i + k) % 32) x (omega arith) (omega arith) hx
+    ∙ ap (λ (n : ℕ). bit n x) place ∙ sym (bit-rotate (k + m) i x h l hx))

@@ -101,7 +101,7 @@ pub fn start_state() -> State
     }
 }
 
-// T of all rounds, rotated. The table is made once a digest and lent to every round.
+// T of all rounds, rotated: the table that is lent to every round.
 pub fn rotated_constants() -> [u32; 64]
     ensures { λ r. ⌜ r ≡ tab 64 rotatedConstant ⌝ }
 {

@@ -3,15 +3,14 @@ ghost use mathlib.Core.Path.{_≡_};
 ghost use Prim.Native.Nat.{ℕ, _+_, _-_, _*_, _/_, _%_, _<_, _≤_};
 ghost use lib.ListN.{length, getD, set, take};
 ghost use Rattle.sm3.specs.Ended.{cutByte, endedByte};
-ghost use Rattle.sm3.specs.Message.{blockBits, blocks, digestOf, message, mostBits};
-ghost use Rattle.sm3.specs.Sm3.{block, expansion, rotatedConstant};
+ghost use Rattle.sm3.specs.Message.{blockBits, blocks, chainingValue, digestOf, message, mostBits};
+ghost use Rattle.sm3.specs.Sm3.{block, expansion};
 ghost use Rattle.encoding.specs.Bits.{bitOfBytes};
 ghost use Rattle.encoding.specs.Packed.{packedLength};
 ghost use Rattle.encoding.specs.Sequence.{tab};
-use crate::block::compress;
-use crate::constants::rotated_constants;
+use crate::compression::compress;
 use crate::constants::start_state;
-use crate::expansion::block_words;
+use crate::expansion::first_words;
 use crate::state::State;
 use encoding::read::wide;
 
@@ -100,30 +99,41 @@ pub fn message_words(bits: u64, bytes: &[u8], i: usize) -> [u32; 68]
 {
     let at = 64 * i;
     if at + 64 <= (bits / 8) as usize {
-        return block_words(bytes, at);
+        return first_words(&bytes[at..at + 64], 16);
     }
     let b = padded(bits, bytes, i);
-    block_words(&b, 0)
+    first_words(&b, 16)
 }
 
-// What block i + 1 begins with, where block i begins with v.
-fn next_state(v: State, bits: u64, bytes: &[u8], i: usize, t: &[u32; 64]) -> State
-    requires { ⌜ (bits ≤ mostBits) × (length (now bytes) ≡ packedLength bits) × (i < blocks bits) × (now t ≡ tab 64 rotatedConstant) ⌝ }
+// What block i + 1 begins with, where block i begins with v. A block that the record fills is read in place.
+fn next_state(v: State, bits: u64, bytes: &[u8], i: usize) -> State
+    requires { ⌜ (bits ≤ mostBits) × (length (now bytes) ≡ packedLength bits) × (i < blocks bits) ⌝ }
     ensures { λ r. ⌜ r ≡ block (blockBits (message bits (bitOfBytes (now (bytes .entry)))) i) v ⌝ }
 {
-    compress(v, message_words(bits, bytes, i), t)
+    let at = 64 * i;
+    if at + 64 <= (bits / 8) as usize {
+        return compress(v, &bytes[at..at + 64]);
+    }
+    let b = padded(bits, bytes, i);
+    compress(v, &b)
 }
 
-// The digest of a record of so many bits, as words.
+// The words held after the first k blocks of the message, in one pass over the record: what block k begins with.
+pub fn chaining_value(bits: u64, bytes: &[u8], k: usize) -> State
+    requires { ⌜ (bits ≤ mostBits) × (length (now bytes) ≡ packedLength bits) × (k ≤ blocks bits) ⌝ }
+    ensures { λ r. ⌜ r ≡ chainingValue (message bits (bitOfBytes (now (bytes .entry)))) k ⌝ }
+{
+    let mut v = start_state();
+    for i in 0..k {
+        v = next_state(v, bits, bytes, i);
+    }
+    v
+}
+
+// The digest of a record of so many bits, as words: what is held after all blocks.
 pub fn hash(bits: u64, bytes: &[u8]) -> State
     requires { ⌜ (bits ≤ mostBits) × (length (now bytes) ≡ packedLength bits) ⌝ }
     ensures { λ r. ⌜ r ≡ digestOf bits (bitOfBytes (now (bytes .entry))) ⌝ }
 {
-    let n = block_count(bits) as usize;
-    let t = rotated_constants();
-    let mut v = start_state();
-    for i in 0..n {
-        v = next_state(v, bits, bytes, i, &t);
-    }
-    v
+    chaining_value(bits, bytes, block_count(bits) as usize)
 }

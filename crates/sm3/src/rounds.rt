@@ -1,111 +1,124 @@
-// The 64 rounds of a block.
+// The 64 rounds of a block, sixteen at a time. The numbers of the rounds are written out: the compiler then keeps words in registers
+// and puts T into its instructions.
 ghost use mathlib.Core.Path.{_≡_};
-ghost use Prim.Native.Nat.{ℕ, _+_, _<_, _≤_};
-ghost use lib.ListN.{getD, take};
-ghost use Rattle.sm3.specs.Sm3.{FF, GG, expansion, pairWord, roundOf, rounds, rotatedConstant};
-ghost use Rattle.sm3.specs.declared.state.State.{State};
-ghost use Rattle.encoding.specs.Sequence.{tab};
-use crate::expansion::expand_four;
+ghost use lib.ListN.{length};
+ghost use Rattle.sm3.specs.Reached.{Reached};
+ghost use Rattle.sm3.specs.Sm3.{expansion, rounds};
+ghost use Rattle.encoding.specs.Bits.{bitOfBytes};
+use crate::constants::rotated_constants;
+use crate::expansion::first_words;
+use crate::round::round;
 use crate::state::State;
-use crate::words::choice_of;
-use crate::words::majority_of;
-use crate::words::p0;
-use crate::words::rotate_left;
-use crate::words::sum_of_3;
-use crate::words::sum_of_4;
-
-// A round with T rotated, Wj, W'j and the values of FF and GG.
-fn round(s: State, t: u32, word: u32, pair: u32, ff: u32, gg: u32) -> State
-    ensures { λ r. ⌜ ((j : ℕ) → t ≡ rotatedConstant j → ff ≡ FF j (s .a) (s .b) (s .c) → gg ≡ GG j (s .e) (s .f) (s .g) → r ≡ roundOf j word pair s) ⌝ }
-{
-    let a12 = rotate_left(s.a, 12);
-    let ss1 = rotate_left(sum_of_3(a12, s.e, t), 7);
-    let ss2 = ss1 ^ a12;
-    let tt1 = sum_of_4(ff, s.d, ss2, pair);
-    let tt2 = sum_of_4(gg, s.h, ss1, word);
-    State {
-        a: tt1,
-        b: s.a,
-        c: rotate_left(s.b, 9),
-        d: s.c,
-        e: p0(tt2),
-        f: s.e,
-        g: rotate_left(s.f, 19),
-        h: s.g,
-    }
-}
-
-// A round from 0 to 15.
-fn early_round(s: State, j: usize, w: &[u32; 68], t: &[u32; 64]) -> State
-    requires { ⌜ (j < 16) × (now t ≡ tab 64 rotatedConstant) ⌝ }
-    ensures { λ r. ⌜ r ≡ roundOf j (getD (now (w .entry)) j 0) (pairWord (now (w .entry)) j) s ⌝ }
-{
-    round(
-        s,
-        t[j],
-        w[j],
-        w[j] ^ w[j + 4],
-        s.a ^ s.b ^ s.c,
-        s.e ^ s.f ^ s.g,
-    )
-}
-
-// A round from 16 to 63.
-fn late_round(s: State, j: usize, w: &[u32; 68], t: &[u32; 64]) -> State
-    requires { ⌜ (16 ≤ j) × (j < 64) × (now t ≡ tab 64 rotatedConstant) ⌝ }
-    ensures { λ r. ⌜ r ≡ roundOf j (getD (now (w .entry)) j 0) (pairWord (now (w .entry)) j) s ⌝ }
-{
-    let ff = majority_of(s.a, s.b, s.c);
-    let gg = choice_of(s.e, s.f, s.g);
-    round(s, t[j], w[j], w[j] ^ w[j + 4], ff, gg)
-}
-
-// Four rounds from j on, all of them before round 16. Four at a time, A to D are back in their places.
-fn early_four(s: State, j: usize, w: &[u32; 68], t: &[u32; 64]) -> State
-    requires { ⌜ (j + 4 ≤ 16) × (now t ≡ tab 64 rotatedConstant) ⌝ }
-    ensures { λ r. ⌜ ((v : State) → s ≡ rounds (now (w .entry)) v j → r ≡ rounds (now (w .entry)) v (j + 4)) ⌝ }
-{
-    let s1 = early_round(s, j, w, t);
-    let s2 = early_round(s1, j + 1, w, t);
-    let s3 = early_round(s2, j + 2, w, t);
-    early_round(s3, j + 3, w, t)
-}
-
-// Four rounds from j on, none of them before round 16.
-fn late_four(s: State, j: usize, w: &[u32; 68], t: &[u32; 64]) -> State
-    requires { ⌜ (16 ≤ j) × (j + 4 ≤ 64) × (now t ≡ tab 64 rotatedConstant) ⌝ }
-    ensures { λ r. ⌜ ((v : State) → s ≡ rounds (now (w .entry)) v j → r ≡ rounds (now (w .entry)) v (j + 4)) ⌝ }
-{
-    let s1 = late_round(s, j, w, t);
-    let s2 = late_round(s1, j + 1, w, t);
-    let s3 = late_round(s2, j + 2, w, t);
-    late_round(s3, j + 3, w, t)
-}
 
 // The rounds 0 to 15.
-fn early_rounds(v: State, w: &[u32; 68], t: &[u32; 64]) -> State
-    requires { ⌜ now t ≡ tab 64 rotatedConstant ⌝ }
-    ensures { λ r. ⌜ r ≡ rounds (now (w .entry)) v 16 ⌝ }
+fn rounds_0_to_15(v: State, x: State, bytes: &[u8], w: &mut [u32; 68], t: &[u32; 64]) -> State
+    requires { ⌜ Reached (now bytes) (now t) v 0 (now w) x ⌝ }
+    ensures { λ r. ⌜ Reached (now (bytes .entry)) (now (t .entry)) v 16 (now (w .exit)) r ⌝ }
 {
-    let mut s = v;
-    for k in 0..4 {
-        s = early_four(s, 4 * k, w, t);
-    }
+    let mut s = x;
+    s = round(v, s, 0, bytes, w, t);
+    s = round(v, s, 1, bytes, w, t);
+    s = round(v, s, 2, bytes, w, t);
+    s = round(v, s, 3, bytes, w, t);
+    s = round(v, s, 4, bytes, w, t);
+    s = round(v, s, 5, bytes, w, t);
+    s = round(v, s, 6, bytes, w, t);
+    s = round(v, s, 7, bytes, w, t);
+    s = round(v, s, 8, bytes, w, t);
+    s = round(v, s, 9, bytes, w, t);
+    s = round(v, s, 10, bytes, w, t);
+    s = round(v, s, 11, bytes, w, t);
+    s = round(v, s, 12, bytes, w, t);
+    s = round(v, s, 13, bytes, w, t);
+    s = round(v, s, 14, bytes, w, t);
+    s = round(v, s, 15, bytes, w, t);
     s
 }
 
-// The 64 rounds on a state v with a block's words W0 to W15. The expansion runs along with the rounds, four words
-// ahead, because the two wait on different results.
-pub fn all_rounds(v: State, block_words: [u32; 68], t: &[u32; 64]) -> State
-    requires { ⌜ now t ≡ tab 64 rotatedConstant ⌝ }
-    ensures { λ r. ⌜ ((bits : ℕ → ℕ) → take 16 «block_words» ≡ expansion bits 16 → r ≡ rounds (expansion bits 68) v 64) ⌝ }
+// The rounds 16 to 31.
+fn rounds_16_to_31(v: State, x: State, bytes: &[u8], w: &mut [u32; 68], t: &[u32; 64]) -> State
+    requires { ⌜ Reached (now bytes) (now t) v 16 (now w) x ⌝ }
+    ensures { λ r. ⌜ Reached (now (bytes .entry)) (now (t .entry)) v 32 (now (w .exit)) r ⌝ }
 {
-    let mut w = block_words;
-    expand_four(&mut w, 16);
-    let mut s = early_rounds(v, &w, t);
-    for k in 4..16 {
-        expand_four(&mut w, 4 * k + 4);
-        s = late_four(s, 4 * k, &w, t);
-    }
+    let mut s = x;
+    s = round(v, s, 16, bytes, w, t);
+    s = round(v, s, 17, bytes, w, t);
+    s = round(v, s, 18, bytes, w, t);
+    s = round(v, s, 19, bytes, w, t);
+    s = round(v, s, 20, bytes, w, t);
+    s = round(v, s, 21, bytes, w, t);
+    s = round(v, s, 22, bytes, w, t);
+    s = round(v, s, 23, bytes, w, t);
+    s = round(v, s, 24, bytes, w, t);
+    s = round(v, s, 25, bytes, w, t);
+    s = round(v, s, 26, bytes, w, t);
+    s = round(v, s, 27, bytes, w, t);
+    s = round(v, s, 28, bytes, w, t);
+    s = round(v, s, 29, bytes, w, t);
+    s = round(v, s, 30, bytes, w, t);
+    s = round(v, s, 31, bytes, w, t);
     s
+}
+
+// The rounds 32 to 47.
+fn rounds_32_to_47(v: State, x: State, bytes: &[u8], w: &mut [u32; 68], t: &[u32; 64]) -> State
+    requires { ⌜ Reached (now bytes) (now t) v 32 (now w) x ⌝ }
+    ensures { λ r. ⌜ Reached (now (bytes .entry)) (now (t .entry)) v 48 (now (w .exit)) r ⌝ }
+{
+    let mut s = x;
+    s = round(v, s, 32, bytes, w, t);
+    s = round(v, s, 33, bytes, w, t);
+    s = round(v, s, 34, bytes, w, t);
+    s = round(v, s, 35, bytes, w, t);
+    s = round(v, s, 36, bytes, w, t);
+    s = round(v, s, 37, bytes, w, t);
+    s = round(v, s, 38, bytes, w, t);
+    s = round(v, s, 39, bytes, w, t);
+    s = round(v, s, 40, bytes, w, t);
+    s = round(v, s, 41, bytes, w, t);
+    s = round(v, s, 42, bytes, w, t);
+    s = round(v, s, 43, bytes, w, t);
+    s = round(v, s, 44, bytes, w, t);
+    s = round(v, s, 45, bytes, w, t);
+    s = round(v, s, 46, bytes, w, t);
+    s = round(v, s, 47, bytes, w, t);
+    s
+}
+
+// The rounds 48 to 63.
+fn rounds_48_to_63(v: State, x: State, bytes: &[u8], w: &mut [u32; 68], t: &[u32; 64]) -> State
+    requires { ⌜ Reached (now bytes) (now t) v 48 (now w) x ⌝ }
+    ensures { λ r. ⌜ Reached (now (bytes .entry)) (now (t .entry)) v 64 (now (w .exit)) r ⌝ }
+{
+    let mut s = x;
+    s = round(v, s, 48, bytes, w, t);
+    s = round(v, s, 49, bytes, w, t);
+    s = round(v, s, 50, bytes, w, t);
+    s = round(v, s, 51, bytes, w, t);
+    s = round(v, s, 52, bytes, w, t);
+    s = round(v, s, 53, bytes, w, t);
+    s = round(v, s, 54, bytes, w, t);
+    s = round(v, s, 55, bytes, w, t);
+    s = round(v, s, 56, bytes, w, t);
+    s = round(v, s, 57, bytes, w, t);
+    s = round(v, s, 58, bytes, w, t);
+    s = round(v, s, 59, bytes, w, t);
+    s = round(v, s, 60, bytes, w, t);
+    s = round(v, s, 61, bytes, w, t);
+    s = round(v, s, 62, bytes, w, t);
+    s = round(v, s, 63, bytes, w, t);
+    s
+}
+
+// The 64 rounds on a state v with a block of 64 bytes.
+pub fn all_rounds(v: State, bytes: &[u8]) -> State
+    requires { ⌜ length (now bytes) ≡ 64 ⌝ }
+    ensures { λ r. ⌜ r ≡ rounds (expansion (bitOfBytes (now (bytes .entry))) 68) v 64 ⌝ }
+{
+    let t = rotated_constants();
+    let mut w = first_words(bytes, 4);
+    let s16 = rounds_0_to_15(v, v, bytes, &mut w, &t);
+    let s32 = rounds_16_to_31(v, s16, bytes, &mut w, &t);
+    let s48 = rounds_32_to_47(v, s32, bytes, &mut w, &t);
+    rounds_48_to_63(v, s48, bytes, &mut w, &t)
 }

@@ -19,18 +19,18 @@ pub fn p0(x: u32) -> u32
     x ^ rotate_left(x, 9) ^ rotate_left(x, 17)
 }
 
-// P1, which the expansion applies to q.
+// P1, which the expansion applies to q. The word is rotated by 23 with the first 8 places shared.
 pub fn p1(x: u32) -> u32
     ensures { λ r. ⌜ r ≡ P1 x ⌝ }
 {
-    x ^ rotate_left(x, 15) ^ rotate_left(x, 23)
+    x ^ rotate_left(x ^ rotate_left(x, 8), 15)
 }
 
 // FF of the rounds from 16 on: at each place what two or three of the bits are.
 pub fn majority_of(x: u32, y: u32, z: u32) -> u32
     ensures { λ r. ⌜ r ≡ majority x y z ⌝ }
 {
-    (x & y) | (x & z) | (y & z)
+    std::num::wrapping_add_u32(y & z, (y ^ z) & x)
 }
 
 // GG of the rounds from 16 on: y where x is 1, else z.

@@ -1,8 +1,8 @@
 -- Bytes in lower-case hexadecimal digits (document 02, request 1: "digest (64 lower-case hexadecimal digits)").
-use mathlib.Core.Bool.{Bool, cond, true, _&&_, _||_}
+use mathlib.Core.Bool.{Bool, cond, true, _&&_}
 use mathlib.Core.List.{List, [], _∷_}
 use Prim.Native.Nat.{ℕ, zero, suc, _+_, _-_, _*_, _/_, _%_}
-use lib.Dec.{leb, ltb}
+use lib.Dec.{ltb}
 use lib.ListN.{getD}
 use Rattle.encoding.specs.Sequence.{tab}
 use Rattle.text.specs.Decimal.{isDigitOr}

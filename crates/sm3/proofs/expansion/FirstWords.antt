@@ -3,14 +3,17 @@
 -- word.
 use mathlib.Core.Bool.{Bool, true, false, cond}
 use mathlib.Core.List.{List, [], _∷_, _++_}
+use mathlib.Core.Logic.{by-cases}
 use mathlib.Core.Path.{_≡_, refl, sym, ap, ap₂, _∙_}
 use Prim.Native.Nat.{ℕ, zero, suc, _+_, _-_, _*_, _≤_, _<_}
+use native.Mathlib.Decide.{decLt}
 use native.Mathlib.Omega.{arith}
 use borrow.Author.Tests.{le-ltb, lt-ltb, ltb-true}
 use lib.Dec.{lit<, ltb}
 use lib.ListN.{length, getD, set, take, length-set}
 use lib.Seq.{getD-take, take-suc-set}
-use Rattle.sm3.specs.Sm3.{blockWord, expanded, expansion, extended, mixed, nextWord}
+use Rattle.sm3.specs.Sm3.{block, blockWord, expanded, expansion, extended, mixed, nextWord, rounds, xorState}
+use Rattle.sm3.specs.declared.state.State.{State}
 use Rattle.encoding.proofs.Bits.{number-cong}
 use Rattle.encoding.proofs.Tab.{getD-tab, take-tab}
 use Rattle.encoding.specs.Sequence.{tab}
@@ -52,6 +55,15 @@ W-block bits j h = rw lt-ltb
 pub W-expanded : (bits : ℕ → ℕ) (w : List ℕ) (j : ℕ) → 16 ≤ j → take j w ≡ expansion bits j → W bits j ≡ expanded w j
 unfolding W nextWord
 W-expanded bits w j h e = rw (le-ltb, ← e) (expanded-take w j h)
+
+-- .. and is the next word after an array of them
+pub W-next : (bits : ℕ → ℕ) (w : List ℕ) (j : ℕ) → take j w ≡ expansion bits j → nextWord bits w j ≡ W bits j
+unfolding nextWord
+W-next bits w j e =
+    by-cases (decLt j 16) (λ l. rw lt-ltb (sym (W-block bits j l)))
+    (λ g.
+    let h : 16 ≤ j = omega arith in
+    rw le-ltb (sym (W-expanded bits w j h e)))
 
 pub getD-block : (bits : ℕ → ℕ) (n j : ℕ) → j < 16 → j < n → getD (expansion bits n) j 0 ≡ blockWord bits j
 getD-block bits n j h l = getD-expansion bits n j l ∙ W-block bits j h
@@ -101,3 +113,8 @@ module _ (b c : ℕ → ℕ) (e : (k : ℕ) → k < 512 → b k ≡ c k) where
   expansion-congruent (suc n) =
       ap (λ (w : List ℕ). extended b n w) (expansion-congruent n)
       ∙ ap (λ (x : ℕ). expansion c n ++ (x ∷ [])) (nextWord-congruent (expansion c n) n)
+
+  -- .. and so is what it comes to
+  pub block-congruent : (v : State) → block b v ≡ block c v
+  unfolding block
+  block-congruent v = ap (λ (w : List ℕ). xorState (rounds w v 64) v) (expansion-congruent 68)

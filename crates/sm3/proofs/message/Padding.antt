@@ -9,7 +9,8 @@ use native.Mathlib.Decide.{decLt}
 use native.Mathlib.Nat.{mul-assoc, pow-suc, zero-div}
 use native.Mathlib.Omega.{arith}
 use lib.Arith.{digits-lt}
-use lib.ListN.{getD}
+use lib.ListN.{getD, drop, take}
+use lib.Seq.{getD-drop, getD-take}
 use lib.Pow.{field, high, mod-mod-pow, pow-add, pow-lt, shl-shr, shr-lt, shr-shr}
 use Rattle.encoding.proofs.Bits.{bit-of-byte}
 use Rattle.encoding.proofs.Tab.{getD-tab}
@@ -130,10 +131,13 @@ module _ (n : ℕ) (bytes : List ℕ) where
       ∙ are (k / 8) (omega arith) (k % 8) (omega arith)
       ∙ ap (message n (bitOfBytes bytes)) place
 
-  -- a block that lies within the record
-  pub record-bits : (i : ℕ) → 512 * i + 512 ≤ n → (k : ℕ) → k < 512
-      → bitOfBytes bytes (8 * (64 * i) + k) ≡ blockBits (message n (bitOfBytes bytes)) i k
-  unfolding blockBits
-  record-bits i l k h =
-      let place : 8 * (64 * i) + k ≡ 512 * i + k = omega arith in
-      ap (bitOfBytes bytes) place ∙ sym (message-content n (bitOfBytes bytes) (512 * i + k) (omega arith))
+  -- the m bytes of a block that lies within the record
+  pub record-bits : (i m : ℕ) → m ≡ 64 → 512 * i + 512 ≤ n → (k : ℕ) → k < 512
+      → bitOfBytes (take m (drop (64 * i) bytes)) k ≡ blockBits (message n (bitOfBytes bytes)) i k
+  unfolding bitOfBytes blockBits
+  record-bits i m e l k h =
+      let place : 8 * (64 * i + k / 8) + k % 8 ≡ 512 * i + k = omega arith in
+      ap (λ (t : ℕ). t / 2 ^ (7 - k % 8) % 2)
+      (getD-take m (drop (64 * i) bytes) (k / 8) 0 (omega arith) ∙ getD-drop (64 * i) bytes (k / 8) 0)
+      ∙ in-record (64 * i + k / 8) (omega arith) (k % 8) (omega arith)
+      ∙ ap (message n (bitOfBytes bytes)) place
