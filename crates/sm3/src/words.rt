@@ -30,7 +30,7 @@ pub fn p1(x: u32) -> u32
 pub fn majority_of(x: u32, y: u32, z: u32) -> u32
     ensures { λ r. ⌜ r ≡ majority x y z ⌝ }
 {
-    std::num::wrapping_add_u32(y & z, (y ^ z) & x)
+    std::num::wrapping_add_u32(x & y, (x ^ y) & z)
 }
 
 // GG of the rounds from 16 on: y where x is 1, else z.
