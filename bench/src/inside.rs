@@ -1,13 +1,17 @@
 //! Records that end inside a byte, each beside one of whole bytes that has as
-//! many blocks: what our own calls take for both, in the same run.
+//! many blocks: what our own calls take for both, and what the other sides do,
+//! in the same run.
 
 use std::cell::RefCell;
 
+use judge::layout;
 use judge::length::Length;
-use judge::{layout, sm3};
 
 use crate::baseline;
-use crate::measures::{as_bytes, digest_ours, figures, produce_ours, record, OURS};
+use crate::measures::{
+    as_bytes, digests_by_libgcrypt, digests_by_openssl, digests_ours, figures, produce_ours,
+    record, OURS,
+};
 use crate::timing::{best, side, Figure, Side};
 
 /// The bits of a record that ends inside a byte, and those of whole bytes.
@@ -27,17 +31,17 @@ fn beside<'a, const SIDES: usize>(
     all.chunks(SIDES).map(<[Figure]>::to_vec).collect()
 }
 
-fn digests(bits: u64) -> Side<'static> {
-    let record = record(bits);
-    let mut out = [0; 32];
-    assert_eq!(digest_ours(&record, &mut out), 0);
-    assert_eq!(out, sm3::hash(&record));
-    side(OURS, move || digest_ours(&record, &mut out))
-}
-
-/// Our digest of a record that ends inside a byte beside that of whole bytes.
+/// Our digest of a record that ends inside a byte beside that of whole bytes,
+/// and beside the libraries', which take whole bytes alone.
 pub fn digest(pairs: &[Pair], runs: u32) -> Vec<Vec<Figure>> {
-    let sides = |&[inside, whole]: &Pair| [inside, whole].map(|bits| (bits, digests(bits)));
+    let sides = |&[inside, whole]: &Pair| {
+        [
+            (inside, digests_ours(inside)),
+            (whole, digests_ours(whole)),
+            (whole, digests_by_openssl(whole)),
+            (whole, digests_by_libgcrypt(whole)),
+        ]
+    };
     beside("digest-inside", sides, pairs, runs)
 }
 

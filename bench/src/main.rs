@@ -71,7 +71,8 @@ fn options(arguments: &[String]) -> Option<Options> {
 /// The target of a ratio, where the measure has one beside that side.
 fn target(measure: &str, side: &str) -> Option<f64> {
     match (measure, side) {
-        ("digest", "openssl") => Some(1.0),
+        ("digest" | "digest-inside", "openssl") => Some(0.9),
+        ("digest" | "digest-inside", "libgcrypt") => Some(1.1),
         ("produce" | "produce-inside", "c-loop") => Some(1.5),
         ("check", "c-sparse") => Some(0.25),
         ("pack" | "unpack", "c-loop") => Some(1.0),

@@ -70,22 +70,48 @@ pub fn figures(measure: &'static str, bits: u64, times: &[(&'static str, f64)]) 
     times.iter().map(figure).collect()
 }
 
+/// A side that makes the digest of a record of so many bits; its first digest
+/// is the judge's.
+fn digests(
+    name: &'static str,
+    bits: u64,
+    mut digest: impl FnMut(&Record, &mut [u8; 32]) + 'static,
+) -> Side<'static> {
+    let (record, mut out) = (record(bits), [0; 32]);
+    digest(&record, &mut out);
+    assert_eq!(out, sm3::hash(&record), "{name} and the judge differ");
+    side(name, move || digest(&record, &mut out))
+}
+
+pub fn digests_ours(bits: u64) -> Side<'static> {
+    digests(OURS, bits, |record, out| {
+        assert_eq!(digest_ours(record, out), 0)
+    })
+}
+
+/// OpenSSL's digest of whole bytes, with a context that is kept.
+pub fn digests_by_openssl(bits: u64) -> Side<'static> {
+    let mut context = Context::new();
+    digests("openssl", bits, move |record, out| {
+        context.digest(record.bytes(), out)
+    })
+}
+
+pub fn digests_by_libgcrypt(bits: u64) -> Side<'static> {
+    digests("libgcrypt", bits, |record, out| {
+        libgcrypt::digest(record.bytes(), out)
+    })
+}
+
 /// The digest of a record of whole bytes beside OpenSSL's, with a context kept
 /// and by one call, and libgcrypt's.
 pub fn digest(bits: u64, runs: u32) -> Vec<Figure> {
-    let record = record(bits);
-    let bytes = record.bytes();
-    let (mut ours, mut theirs, mut third) = ([0; 32], [0; 32], [0; 32]);
-    let mut context = Context::new();
-    assert_eq!(digest_ours(&record, &mut ours), 0);
-    context.digest(bytes, &mut theirs);
-    libgcrypt::digest(bytes, &mut third);
-    assert_eq!([ours, theirs, third], [sm3::hash(&record); 3]);
+    let whole = record(bits);
     let sides = vec![
-        side(OURS, || digest_ours(&record, &mut ours)),
-        side("openssl", || context.digest(bytes, &mut theirs)),
-        side("openssl-one-call", || openssl::one_call(bytes)),
-        side("libgcrypt", || libgcrypt::digest(bytes, &mut third)),
+        digests_ours(bits),
+        digests_by_openssl(bits),
+        side("openssl-one-call", || openssl::one_call(whole.bytes())),
+        digests_by_libgcrypt(bits),
     ];
     figures("digest", bits, &best(sides, runs))
 }

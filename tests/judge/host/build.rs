@@ -14,6 +14,10 @@ fn link(variable: &str, name: &str) {
     println!("cargo:rerun-if-env-changed={variable}");
     let given = env::var(variable).unwrap_or_else(|_| panic!("{variable} must name lib{name}.a"));
     let archive = fs::canonicalize(&given).unwrap_or_else(|error| panic!("{given}: {error}"));
+    assert!(
+        archive.ends_with(format!("lib{name}.a")),
+        "{variable} must name lib{name}.a, and not {given}"
+    );
     let folder = archive.parent().expect("a file lies in a folder");
     println!("cargo:rerun-if-changed={}", archive.display());
     println!("cargo:rustc-link-search=native={}", folder.display());
