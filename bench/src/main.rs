@@ -82,7 +82,7 @@ fn target(measure: &str, side: &str) -> Option<f64> {
 
 fn print_heading() {
     println!(
-        "{:19} {:>6} {:>6} {:>12} {:>12}  {:17} {:>6}  target",
+        "{:19} {:>6} {:>6} {:>12} {:>12}  {:19} {:>6}  target",
         "measure", "bits", "blocks", "ours us", "other us", "other side", "ratio"
     );
 }
@@ -107,7 +107,7 @@ fn print_measure(figures: &[Figure]) {
             None => String::from("-"),
         };
         println!(
-            "{:19} {:>6} {:>6} {:>12.3} {:>12.3}  {:17} {ratio:>6.2}  {target}",
+            "{:19} {:>6} {:>6} {:>12.3} {:>12.3}  {:19} {ratio:>6.2}  {target}",
             ours.measure,
             ours.bits,
             ours.blocks,
