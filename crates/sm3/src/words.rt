@@ -19,7 +19,7 @@ pub fn p0(x: u32) -> u32
     x ^ rotate_left(x, 9) ^ rotate_left(x, 17)
 }
 
-// P1, which the expansion applies to q. The word is rotated by 23 with the first 8 places shared.
+// P1, which the expansion applies to q. A rotation by 23 is one by 8 and one by 15, and the last serves both.
 pub fn p1(x: u32) -> u32
     ensures { λ r. ⌜ r ≡ P1 x ⌝ }
 {
