@@ -1,4 +1,5 @@
 pub mod Carries
+pub mod Differences
 pub mod Forms
 pub mod Parts
 pub mod Runs

@@ -1,7 +1,9 @@
 pub mod All
 pub mod Apart
 pub mod Clear
+pub mod DifferenceApart
 pub mod Nonzero
 pub mod Rises
 pub mod SumApart
+pub mod TermRuns
 pub mod WordApart

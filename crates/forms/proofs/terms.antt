@@ -1,3 +1,4 @@
+pub mod DifferenceTerms
 pub mod Flat
 pub mod FlatAll
 pub mod SumTerms

@@ -15,3 +15,7 @@ carryWires s i = s / 2 ^ 32 / 2 ^ (1 - i) % 2
 -- a sum's word and its 2 carries
 unfoldable pub sumWires : ℕ → ℕ → ℕ
 sumWires s = beside 32 (wordWires (dropped s)) (carryWires s)
+
+-- "4 bits each", "7 bits each", "highest bit first" (document 02, request 5): the n wires of a number
+unfoldable pub numberWires : ℕ → ℕ → ℕ → ℕ
+numberWires n x i = x / 2 ^ (n - 1 - i) % 2

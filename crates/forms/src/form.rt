@@ -17,6 +17,13 @@ pub struct Addends {
     pub t: WordPosition,
 }
 
+// A digit on four wires, or where `two` is true a number of two digits, each from its highest bit on.
+pub struct Digits {
+    pub units: WireNumber,
+    pub two: bool,
+    pub tens: WireNumber,
+}
+
 // One row's equation, in the letters of the layout.
 pub enum Form {
     // w × 1 = bit
@@ -65,5 +72,14 @@ pub enum Form {
     Equal {
         x: WireNumber,
         y: WireNumber,
+    },
+    // (digits - bound - bits) × 1 = 0 where `above` is true, else (bound - digits - bits) × 1 = 0: the bits are `width` wires
+    // from r on
+    Difference {
+        digits: Digits,
+        above: bool,
+        bound: u64,
+        width: u64,
+        r: WireNumber,
     },
 }

@@ -5,13 +5,16 @@ ghost use Prim.Native.Nat.{ℕ, _+_, _-_, _*_, _<_, _≤_, _^_};
 ghost use lib.ListN.{length};
 ghost use Rattle.encoding.specs.Sequence.{tab};
 ghost use Rattle.encoding.specs.Written.{Written};
-ghost use Rattle.forms.specs.Bounds.{Within};
+ghost use Rattle.field.specs.Field.{p};
+ghost use Rattle.forms.specs.Bounds.{Small, Within};
 ghost use Rattle.forms.specs.Positions.{at, one};
-ghost use Rattle.forms.specs.Rows.{_·_, addendTerms, less, nonzero, taken, weighted};
+ghost use Rattle.forms.specs.Rows.{_·_, addendTerms, digitTerms, less, nonzero, numberTerms, taken, weighted};
+ghost use Rattle.forms.specs.Rows as rows;
 ghost use Rattle.forms.specs.Shape.{mostTerms};
-ghost use Rattle.forms.specs.Terms.{Filled, Fit, flat, termCount, termRoom, unsorted};
-ghost use Rattle.forms.specs.declared.form.Form.the-variants.{Bit, Choice, Equal, Fixed, Majority, Sum, XorOfThree, XorOfTwo};
+ghost use Rattle.forms.specs.Terms.{Filled, Fit, FitDifference, flat, termCount, termRoom, unsorted};
+ghost use Rattle.forms.specs.declared.form.Form.the-variants.{Bit, Choice, Difference, Equal, Fixed, Majority, Sum, XorOfThree, XorOfTwo};
 use crate::form::Addends;
+use crate::form::Digits;
 use crate::form::Form;
 use crate::position::WordPosition;
 use crate::position::wire_of_bit;
@@ -128,6 +131,49 @@ fn push_summands(terms: &mut [u64], s: Addends, constant: u64) -> usize
 {
     let n = push_addends(terms, s);
     n + push_constant(terms, n, constant)
+}
+
+// k put on, or taken off.
+fn signed(plus: bool, k: u64) -> u64
+    requires { ⌜ k ≤ p ⌝ }
+    ensures { λ r. ⌜ r ≡ rows.signed plus k ⌝ }
+{
+    if plus {
+        return k;
+    }
+    P - k
+}
+
+// Writes k times the number on `width` wires from w on, put on or taken off, behind the first n terms.
+fn push_number(terms: &mut [u64], n: usize, plus: bool, k: u64, width: u64, w: WireNumber)
+    requires { ⌜ (2 * (n + width) ≤ length (now terms)) × (k ≤ 10) × (width ≤ 7) × Small (w .0) ⌝ }
+    ensures { λ _. ⌜ Written (2 * n) (flat (numberTerms plus k width w)) (now (terms .entry)) (now (terms .exit)) ⌝ }
+{
+    for i in 0..width {
+        let weight = 64 >> (7 - width + i);
+        push(
+            terms,
+            n + i as usize,
+            wire_past(w, i),
+            signed(plus, k * weight),
+        );
+    }
+}
+
+// Writes one digit or two, put on or taken off; how many terms that is.
+fn push_digits(terms: &mut [u64], plus: bool, d: Digits) -> usize
+    requires { ⌜ (16 ≤ length (now terms)) × Small (d .units .0) × Small (d .tens .0) ⌝ }
+    ensures { λ r. ⌜ (r ≤ 8) × (r ≡ length (digitTerms plus d)) × Written 0 (flat (digitTerms plus d)) (now (terms .entry)) (now (terms .exit)) ⌝ }
+{
+    let units = d.units;
+    push_number(terms, 0, plus, 1, 4, units);
+    let two = d.two;
+    if two {
+        let tens = d.tens;
+        push_number(terms, 4, plus, 10, 4, tens);
+        return 8;
+    }
+    4
 }
 
 // w × 1 = bit
@@ -248,6 +294,26 @@ fn fill_equal(terms: &mut [u64], x: WireNumber, y: WireNumber) -> Counts
     Counts { a: 2, b: 1, c: 0 }
 }
 
+// (digits - bound - bits) × 1 = 0, or (bound - digits - bits) × 1 = 0
+fn fill_difference(
+    terms: &mut [u64],
+    digits: Digits,
+    above: bool,
+    bound: u64,
+    width: u64,
+    r: WireNumber,
+) -> Counts
+    requires { ⌜ (termRoom ≤ length (now terms)) × FitDifference digits bound width r ⌝ }
+    ensures { λ counts. ⌜ Filled (unsorted (Difference digits above bound width r)) counts (now (terms .entry)) (now (terms .exit)) ⌝ }
+{
+    let n = push_digits(terms, above, digits);
+    push(terms, n, WireNumber(0), signed(!above, bound));
+    push_number(terms, n + 1, false, 1, width, r);
+    let a = n + 1 + width as usize;
+    push(terms, a, WireNumber(0), 1);
+    Counts { a, b: 1, c: 0 }
+}
+
 // The terms of a form: those of A, then B, then C, each in the order of the equation, without zero ones.
 pub fn fill(form: Form, terms: &mut [u64]) -> Counts
     requires { ⌜ (termRoom ≤ length (now terms)) × Fit form × (termCount form ≤ mostTerms) ⌝ }
@@ -266,5 +332,12 @@ pub fn fill(form: Form, terms: &mut [u64]) -> Counts
             r,
         } => fill_sum(terms, addends, constant, r),
         Form::Equal { x, y } => fill_equal(terms, x, y),
+        Form::Difference {
+            digits,
+            above,
+            bound,
+            width,
+            r,
+        } => fill_difference(terms, digits, above, bound, width, r),
     }
 }

@@ -69,7 +69,7 @@ module _ (a : ℕ → ℕ) where
   unfolding rowOf
   row-letters f = Iff·trans (satisfied (rowOf f)) (simp value-normal Iff·rfl)
 
-  value-tab : (n : ℕ) (f : ℕ → Term) → value a (tab (suc n) f) ≡ value a (tab n f) + f n .coefficient * a (f n .wire .0)
+  pub value-tab : (n : ℕ) (f : ℕ → Term) → value a (tab (suc n) f) ≡ value a (tab n f) + f n .coefficient * a (f n .wire .0)
   unfolding value tab
   value-tab n f = value-append (tab n f) (f n ∷ []) ∙ omega arith
 

@@ -1,17 +1,19 @@
 -- Forms whose wires are below m, apart from each other and from wire 0. Then the terms of each part of a form's letters have
 -- different wires below m and coefficients below p, and all parts have at most 163 terms: 162 and 1 of a sum.
+use mathlib.Core.Bool.{not}
 use mathlib.Core.List.{List, [], _∷_}
 use mathlib.Core.Path.{_≡_}
 use Prim.Native.Nat.{ℕ, _+_, _<_, _≤_}
 use native.Mathlib.Omega.{arith}
 use lib.ListN.{length, length-append}
+use Rattle.forms.proofs.shape.DifferenceApart.{ApartDifference, difference-few, difference-part}
 use Rattle.forms.proofs.shape.Rises.{Part, nonzero-length}
 use Rattle.forms.proofs.shape.SumApart.{ApartSum, sum-few, sum-part}
 use Rattle.forms.proofs.terms.SumTerms.{addendWords}
-use Rattle.forms.specs.Rows.{Row, letters, terms}
+use Rattle.forms.specs.Rows.{Row, letters, signed, terms}
 use Rattle.forms.specs.Shape.{All, Pairwise, mostTerms}
 use Rattle.forms.specs.Terms.{termCount, unsorted}
-use Rattle.forms.specs.declared.form.Form.the-variants.{Fixed, Bit, XorOfTwo, XorOfThree, Majority, Choice, Sum, Equal}
+use Rattle.forms.specs.declared.form.Form.the-variants.{Fixed, Bit, XorOfTwo, XorOfThree, Majority, Choice, Sum, Equal, Difference}
 use Rattle.forms.specs.declared.form.Form.{Form}
 
 -- different wires below m, none of them wire 0; where a form has a constant, that is in range
@@ -28,6 +30,7 @@ Apart m (Majority x y z r) = ApartWires m (x .0 ∷ y .0 ∷ z .0 ∷ r .0 ∷ [
 Apart m (Choice x y z r) = ApartWires m (x .0 ∷ y .0 ∷ z .0 ∷ r .0 ∷ [])
 Apart m (Sum s c r) = ApartSum m (addendWords s) c (r .0)
 Apart m (Equal x y) = ApartWires m (x .0 ∷ y .0 ∷ [])
+Apart m (Difference d above bound n r) = ApartDifference m d bound n (r .0)
 
 pub record Parts (m : ℕ) (r : Row) : Type 0 where
   pub a : Part m (r .A)
@@ -44,6 +47,8 @@ letters-parts m (Majority x y z r) h = record { a = omega arith; b = omega arith
 letters-parts m (Choice x y z r) h = omega arith
 letters-parts m (Sum s c r) h = record { a = sum-part m s c r h; b = omega arith; c = omega arith }
 letters-parts m (Equal x y) h = omega arith
+letters-parts m (Difference d above bound n r) h =
+    record { a = difference-part m d above bound n r h; b = omega (arith, h .result); c = omega arith }
 
 -- how many terms a form has, the zero ones left out
 
@@ -63,3 +68,5 @@ letters-few m (Majority x y z r) h = few (Majority x y z r) (omega arith)
 letters-few m (Choice x y z r) h = few (Choice x y z r) (omega arith)
 letters-few m (Sum s c r) h = sum-few m s c r h
 letters-few m (Equal x y) h = few (Equal x y) (omega arith)
+letters-few m (Difference d above bound n r) h =
+    few (Difference d above bound n r) (omega (arith, difference-few above d (signed (not above) bound) n r (h .few)))

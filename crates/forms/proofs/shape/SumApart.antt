@@ -8,9 +8,10 @@ use lib.ListN.{length, length-append}
 use lib.Pow.{pow-mono, pow-pos}
 use Rattle.encoding.specs.Sequence.{tab}
 use Rattle.field.specs.Field.{p}
-use Rattle.forms.proofs.shape.All.{all-append, all-map, all-tab, pairwise-append, pairwise-tab}
+use Rattle.forms.proofs.shape.All.{all-append, all-tab, pairwise-append, pairwise-tab}
 use Rattle.forms.proofs.shape.Clear.{Clear, ClearWords, Under}
-use Rattle.forms.proofs.shape.Rises.{Distinct, Part}
+use Rattle.forms.proofs.shape.Rises.{Part}
+use Rattle.forms.proofs.shape.TermRuns.{Off, On, Run, constant-run, run-before, run-off, run-part}
 use Rattle.forms.proofs.terms.SumTerms.{addendWords, addends-length, addends-weighted, sum-length, weightedAll}
 use Rattle.forms.specs.Positions.{one}
 use Rattle.forms.specs.Rows.{_·_, addendTerms, nonzero, taken, weighted}
@@ -21,49 +22,6 @@ use Rattle.forms.specs.declared.form.Form.the-variants.{Sum}
 use Rattle.forms.specs.declared.form.Term.{Term}
 use Rattle.forms.specs.declared.position.WordPosition.{WordPosition}
 use Rattle.refusal.specs.declared.numbers.WireNumber.{WireNumber}
-
--- Terms on runs of wires.
-
--- a term's wire is one of the n from a on
-abbrev On : ℕ → ℕ → Term → Type 0
-On a n t = (a ≤ t .wire .0) × (t .wire .0 < a + n)
-
--- .. or none of them
-abbrev Off : ℕ → ℕ → Term → Type 0
-Off a n t = a ≤ t .wire .0 → a + n ≤ t .wire .0
-
--- terms of different wires among the n from a on
-record Run (a n : ℕ) (ts : List Term) : Type 0 where
-  on : All (On a n) ts
-  distinct : Distinct ts
-  coefficients : All (λ t. t .coefficient < p) ts
-
-module _ (a n : ℕ) (ts : List Term) (r : Run a n ts) where
-  run-off : (b m : ℕ) → Clear b m a n → All (Off b m) ts
-  run-off b m c = all-map (On a n) (Off b m) (λ t h l. omega (arith, c (omega arith))) ts (r .on)
-
-  run-part : (m : ℕ) → a + n ≤ m → Part m ts
-  run-part m h =
-      record {
-        distinct = r .distinct;
-        wires = all-map (On a n) (λ t. t .wire .0 < m) (λ t k. omega arith) ts (r .on);
-        coefficients = r .coefficients;
-      }
-
-  -- a run before terms whose wires are none of its own
-  run-before : (m : ℕ) (us : List Term) → a + n ≤ m → Part m us → All (Off a n) us → Part m (ts ++ us)
-  run-before m us h q off =
-      record {
-        distinct =
-            pairwise-append _ ts us (r .distinct) (q .distinct)
-            (all-map (On a n) (λ t. All (λ u. t .wire .0 ≡ u .wire .0 → ⊥) us)
-            (λ t k. all-map (Off a n) (λ u. t .wire .0 ≡ u .wire .0 → ⊥) (λ u l e. omega (arith, l (omega arith))) us off) ts (r .on));
-        wires = all-append (λ t. t .wire .0 < m) ts us (run-part m h .wires) (q .wires);
-        coefficients = all-append (λ t. t .coefficient < p) ts us (r .coefficients) (q .coefficients);
-      }
-
-constant-run : (c : ℕ) → c < 2 ^ 32 → Run 0 1 (c · one ∷ [])
-constant-run c h = record { on = omega arith; distinct = (tt, tt); coefficients = omega arith }
 
 word-run : (x : WordPosition) → Run (x .first .0) 32 (weighted x)
 unfolding weighted
@@ -113,7 +71,7 @@ rest c r = c · one ∷ taken r
 module _ (m c : ℕ) (r : WireNumber) where
   rest-part : c < 2 ^ 32 → 1 ≤ r .0 → r .0 + 34 ≤ m → Part m (rest c r)
   rest-part h k l =
-      run-before 0 1 (c · one ∷ []) (constant-run c h) m (taken r) (omega arith) (run-part _ 34 (taken r) (taken-run r) m l)
+      run-before 0 1 (c · one ∷ []) (constant-run c (omega arith)) m (taken r) (omega arith) (run-part _ 34 (taken r) (taken-run r) m l)
       (run-off _ 34 (taken r) (taken-run r) 0 1 (omega arith))
 
   words-part : (xs : List WordPosition) → Part m (rest c r)

@@ -60,10 +60,10 @@ addends-length s = ap length (addends-weighted s) ∙ words-length (addendWords 
 
 -- None but the constant is zero.
 
-nonzero-both : (xs ys : List Term) → nonzero xs ≡ xs → nonzero ys ≡ ys → nonzero (xs ++ ys) ≡ xs ++ ys
+pub nonzero-both : (xs ys : List Term) → nonzero xs ≡ xs → nonzero ys ≡ ys → nonzero (xs ++ ys) ≡ xs ++ ys
 nonzero-both xs ys p q = nonzero-append xs ys ∙ ap₂ (λ l m. l ++ m) p q
 
-nonzero-tab : (n : ℕ) (f : ℕ → Term) → ((i : ℕ) → f i .coefficient ≡ 0 → ⊥) → nonzero (tab n f) ≡ tab n f
+pub nonzero-tab : (n : ℕ) (f : ℕ → Term) → ((i : ℕ) → f i .coefficient ≡ 0 → ⊥) → nonzero (tab n f) ≡ tab n f
 unfolding tab nonzero
 nonzero-tab zero f h = refl
 nonzero-tab (suc n) f h = nonzero-both (tab n f) (f n ∷ []) (nonzero-tab n f h) (keeps (f n) [] (h n))

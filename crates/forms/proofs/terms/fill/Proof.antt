@@ -55,6 +55,15 @@ enum-known-form-8 c = search needs
 fill-equal-requires : tie.Need-fill-equal-requires
 fill-equal-requires c κs = search needs
 
+enum-known-form-9 : tie.Need-enum-known-form-9
+enum-known-form-9 c = search needs
+
+fill-difference-requires : tie.Need-fill-difference-requires
+fill-difference-requires c κs =
+    let known = c .before .before .form9 .given .1 in
+    let pre = c .before .before .before .before .before .pre in
+    (pre .0, rw known at (pre .1))
+
 same-length : tie.Need-same-length
 same-length c = search needs
 
@@ -103,6 +112,12 @@ same-length-8 c = search needs
 returns-8 : tie.Need-returns-8
 returns-8 c = filled-as (c .before .before .before .before .before .form8 .given .1) (c .before .before .fill-equal .ensures)
 
+same-length-9 : tie.Need-same-length-9
+same-length-9 c = search needs
+
+returns-9 : tie.Need-returns-9
+returns-9 c = filled-as (c .before .before .before .before .before .form9 .given .1) (c .before .before .fill-difference .ensures)
+
 pub fill-spec : {M : Type 1} → statement M
 fill-spec =
     tie.close
@@ -123,6 +138,8 @@ fill-spec =
     fill-sum-requires
     enum-known-form-8
     fill-equal-requires
+    enum-known-form-9
+    fill-difference-requires
     same-length
     returns
     same-length-2
@@ -138,4 +155,6 @@ fill-spec =
     same-length-7
     returns-7
     same-length-8
-    returns-8)
+    returns-8
+    same-length-9
+    returns-9)
