@@ -21,6 +21,7 @@ use Rattle.circuit.specs.Circuits.{messageOf}
 use Rattle.circuit.specs.Places.{frameLayout, rowCount}
 use Rattle.circuit.specs.WholeBytes.{WholeBytes, rowsOfBytes, wiresOfBytes}
 use Rattle.circuit.specs.Wires.{blockFirst, wireCount}
+use Rattle.circuit.specs.declared.circuits.Circuit.the-variants.{Record}
 use Rattle.encoding.proofs.Sequence.{beside-first, beside-then}
 use Rattle.encoding.specs.Bits.{bitOfBytes}
 use Rattle.encoding.specs.Sequence.{beside, grid}
@@ -32,11 +33,11 @@ use Rattle.sm3.proofs.message.MessageBits.{message-padding}
 use Rattle.sm3.specs.Message.{blocks, message}
 use Rattle.sm3.specs.WholeBytes.{blocksOfBytes, paddedBytes}
 
-wires-of-bytes : (L : ℕ) → wireCount (8 * L) ≡ wiresOfBytes L
+wires-of-bytes : (L : ℕ) → wireCount (Record (8 * L)) ≡ wiresOfBytes L
 unfolding wireCount
 wires-of-bytes L = omega (arith, blocks-of-bytes L)
 
-rows-of-bytes : (L : ℕ) → rowCount (8 * L) ≡ rowsOfBytes L
+rows-of-bytes : (L : ℕ) → rowCount (Record (8 * L)) ≡ rowsOfBytes L
 unfolding rowCount
 rows-of-bytes L = omega (arith, blocks-of-bytes L)
 
@@ -47,17 +48,17 @@ other-branch false x y z e = e refl
 
 -- the row of bit b of block i
 bit-row : (n i b : ℕ) → i < blocks n → b < 512
-    → formAt n (256 + (32320 * i + b))
+    → formAt (Record n) (256 + (32320 * i + b))
     ≡ cond (ltb (512 * i + b) n) (Bit (record { 0 = blockFirst i + b })) (Fixed (record { 0 = blockFirst i + b }) (message n (λ k. 0) (512 * i + b)))
 unfolding grid formOf messageForm
 bit-row n i b l h =
     let bit : 32 * (b / 32) + b % 32 ≡ b = div-add-mod b 32 in
-    block-row n i b l (omega arith)
+    block-row (Record n) i b l (omega arith)
     ∙ beside-first 512 _ _ b h
-    ∙ ap₂ (λ j k. messageForm n (messageOf n i) (512 * j + k) (blockFirst i + k)) (sub-zero i) bit
+    ∙ ap₂ (λ j k. messageForm (Record n) (messageOf (Record n) i) (512 * j + k) (blockFirst i + k)) (sub-zero i) bit
 
 bit-rows : (r : List ℕ) (i b : ℕ) → i < blocksOfBytes (length r) → b < 512
-    → formAt (8 * length r) (256 + (32320 * i + b))
+    → formAt (Record (8 * length r)) (256 + (32320 * i + b))
     ≡ cond (ltb (512 * i + b) (8 * length r)) (Bit (record { 0 = 513 + 22528 * i + b }))
     (Fixed (record { 0 = 513 + 22528 * i + b }) (bitOfBytes (paddedBytes r) (512 * i + b)))
 bit-rows r i b l h =
@@ -70,34 +71,34 @@ bit-rows r i b l h =
     (message-padding n (λ k. 0) (bitOfBytes r) k (ltb-false k n past) ∙ ap (λ m. m k) (padded-message r)))
 
 -- Rows that are made of the count of blocks.
-module _ (n m k : ℕ) (same : blocks n ≡ blocks m) (below : k < rowCount n) (also : k < rowCount m)
+module _ (n m k : ℕ) (same : blocks n ≡ blocks m) (below : k < rowCount (Record n)) (also : k < rowCount (Record m))
     (other : (i b : ℕ) → i < blocks n → b < 512 → k ≡ 256 + (blockRows * i + b) → ⊥) where
-  start-row : k < 256 → formAt n k ≡ formAt m k
+  start-row : k < 256 → formAt (Record n) k ≡ formAt (Record m) k
   unfolding frameLayout grid formOf
-  start-row l = form-at n k below ∙ beside-first 256 _ _ k l ∙ sym (form-at m k also ∙ beside-first 256 _ _ k l)
+  start-row l = form-at (Record n) k below ∙ beside-first 256 _ _ k l ∙ sym (form-at (Record m) k also ∙ beside-first 256 _ _ k l)
 
-  block-rest : (i b : ℕ) → i < blocks n → b < blockRows → k ≡ 256 + (blockRows * i + b) → formAt n k ≡ formAt m k
+  block-rest : (i b : ℕ) → i < blocks n → b < blockRows → k ≡ 256 + (blockRows * i + b) → formAt (Record n) k ≡ formAt (Record m) k
   unfolding begins
   block-rest i b l h e =
       by-cases (decLt b 512) (λ bit. absurd (other i b l bit e))
       (λ past.
       let place : b ≡ 512 + (b - 512) = omega arith in
-      let at : (n : ℕ) → i < blocks n → formAt n k ≡ blockForms (blockFirst i) (begins (messageOf n i) i) (b - 512) =
-      λ n l. ap (formAt n) e ∙ block-row n i b l h ∙ ap (beside 512 (grid 32 (formOf n i Message)) _) place ∙ beside-then 512 _ _ (b - 512) in
+      let at : (n : ℕ) → i < blocks n → formAt (Record n) k ≡ blockForms (blockFirst i) (begins (messageOf (Record n) i) i) (b - 512) =
+      λ n l. ap (formAt (Record n)) e ∙ block-row (Record n) i b l h ∙ ap (beside 512 (grid 32 (formOf (Record n) i Message)) _) place ∙ beside-then 512 _ _ (b - 512) in
       at n l ∙ sym (at m (omega arith)))
 
-  digest-row : (j : ℕ) → k ≡ 256 + (blockRows * blocks n + j) → j < 256 → formAt n k ≡ formAt m k
+  digest-row : (j : ℕ) → k ≡ 256 + (blockRows * blocks n + j) → j < 256 → formAt (Record n) k ≡ formAt (Record m) k
   unfolding frameLayout grid formOf
   digest-row j e l =
-      let at : (n : ℕ) → k < rowCount n → k ≡ 256 + (blockRows * blocks n + j) → formAt n k ≡ digestForm (blockFirst (blocks n - 1)) (j / 32) (j % 32) =
+      let at : (n : ℕ) → k < rowCount (Record n) → k ≡ 256 + (blockRows * blocks n + j) → formAt (Record n) k ≡ digestForm (blockFirst (blocks n - 1)) (j / 32) (j % 32) =
       λ n below e.
-      form-at n k below ∙ ap (λ x. frameLayout (blocks n) (λ s i. formOf n i s) x) e
+      form-at (Record n) k below ∙ ap (λ x. frameLayout (blocks n) (λ s i. formOf (Record n) i s) x) e
       ∙ beside-then 256 _ _ (blockRows * blocks n + j) ∙ beside-then (blockRows * blocks n) _ _ j ∙ beside-first 256 _ _ j l in
       at n below e
       ∙ ap (λ c. digestForm (blockFirst (c - 1)) (j / 32) (j % 32)) same
       ∙ sym (at m also (omega (arith, ap (λ c. blockRows * c) same)))
 
-  same-row : formAt n k ≡ formAt m k
+  same-row : formAt (Record n) k ≡ formAt (Record m) k
   unfolding rowCount
   same-row =
       by-cases (decLt k 256) start-row
@@ -107,7 +108,7 @@ module _ (n m k : ℕ) (same : blocks n ≡ blocks m) (below : k < rowCount n) (
       (λ l. digest-row (k - 256 - blockRows * blocks n) (omega arith) (omega arith)))
 
 other-rows : (L n k : ℕ) → blocks n ≡ blocksOfBytes L → k < rowsOfBytes L
-    → ((i b : ℕ) → i < blocksOfBytes L → b < 512 → k ≡ 256 + (32320 * i + b) → ⊥) → rowAt (8 * L) k ≡ rowAt n k
+    → ((i b : ℕ) → i < blocksOfBytes L → b < 512 → k ≡ 256 + (32320 * i + b) → ⊥) → rowAt (Record (8 * L)) k ≡ rowAt (Record n) k
 unfolding rowAt rowCount
 other-rows L n k same below other =
     ap rowOf

@@ -1,2 +1,3 @@
+pub mod AxlesApart
 pub mod RowApart
 pub mod Shape

@@ -6,21 +6,22 @@ use Rattle.block.specs.StepForms.{ffForm, ggForm, p0Form, p1Form, qForm, result
 use Rattle.block.specs.Wires.{StatePosition, eightFrom, resultAt, resultFirst, stands}
 use Rattle.block.specs.declared.step.Step.the-variants.{Start, Message, Q, P1, W, WPrime, U, Ss2, Ff, Gg, Tt1, Tt2, P0, Result, Digest, Appended}
 use Rattle.block.specs.declared.step.Step.{Step}
-use Rattle.circuit.specs.Circuits.{appendedForm, contentForm, messageOf}
+use Rattle.circuit.specs.Circuits.{appendedForm, blockCount, contentForm, messageOf}
 use Rattle.circuit.specs.Places.{placeAt}
 use Rattle.circuit.specs.Wires.{blockFirst, digestFirst, startFirst}
+use Rattle.circuit.specs.declared.circuits.Circuit.{Circuit}
 use Rattle.circuit.specs.declared.message.MessageSpan.{MessageSpan}
 use Rattle.forms.specs.Rows.{Row, rowOf}
 use Rattle.forms.specs.declared.form.Form.the-variants.{Fixed, Equal}
 use Rattle.forms.specs.declared.form.Form.{Form}
-use Rattle.sm3.specs.Message.{blocks, message}
+use Rattle.sm3.specs.Message.{message}
 use Rattle.sm3.specs.Sm3.{start, wordOf}
 use Rattle.sm3.specs.Words.{bit}
 
--- "its record wires by bit rows and its padding wires by fixed rows": bit k of the message m, on wire w, for a record of n bits
-unfoldable pub messageForm : ℕ → MessageSpan → ℕ → ℕ → Form
-messageForm n m k w =
-    cond (ltb k (m .bits)) (contentForm n (record { 0 = w })) (Fixed (record { 0 = w }) (message (m .bits) (λ i. 0) k))
+-- "its record wires by bit rows and its padding wires by fixed rows": bit k of the message m, on wire w
+unfoldable pub messageForm : Circuit → MessageSpan → ℕ → ℕ → Form
+messageForm c m k w =
+    cond (ltb k (m .bits)) (contentForm c (record { 0 = w })) (Fixed (record { 0 = w }) (message (m .bits) (λ i. 0) k))
 
 -- which bit of its message bit b of block i is
 abbrev pub messageBit : MessageSpan → ℕ → ℕ → ℕ
@@ -42,29 +43,30 @@ startForm k l = Fixed (record { 0 = startFirst + 32 * k + l }) (bit l (wordOf st
 unfoldable pub digestForm : ℕ → ℕ → ℕ → Form
 digestForm F k l = Equal (record { 0 = digestFirst + 32 * k + l }) (record { 0 = resultFirst F k + l })
 
--- the form of line l of the step's word j in block i, for a record of n bits
-unfoldable pub formOf : ℕ → ℕ → Step → ℕ → ℕ → Form
-formOf n i Start j l = startForm j l
-formOf n i Message j l = messageForm n (messageOf n i) (messageBit (messageOf n i) i (32 * j + l)) (blockFirst i + (32 * j + l))
-formOf n i Q j l = qForm (blockFirst i) j l
-formOf n i P1 j l = p1Form (blockFirst i) j l
-formOf n i W j l = wForm (blockFirst i) j l
-formOf n i WPrime j l = wPrimeForm (blockFirst i) j l
-formOf n i U j l = uForm (blockFirst i) (stands (blockFirst i) (begins (messageOf n i) i) j) j l
-formOf n i Ss2 j l = ss2Form (blockFirst i) (stands (blockFirst i) (begins (messageOf n i) i) j) j l
-formOf n i Ff j l = ffForm (blockFirst i) (stands (blockFirst i) (begins (messageOf n i) i) j) j l
-formOf n i Gg j l = ggForm (blockFirst i) (stands (blockFirst i) (begins (messageOf n i) i) j) j l
-formOf n i Tt1 j l = tt1Form (blockFirst i) (stands (blockFirst i) (begins (messageOf n i) i) j) j l
-formOf n i Tt2 j l = tt2Form (blockFirst i) (stands (blockFirst i) (begins (messageOf n i) i) j) j l
-formOf n i P0 j l = p0Form (blockFirst i) j l
-formOf n i Result j l = resultForm (blockFirst i) (begins (messageOf n i) i) j l
-formOf n i Digest j l = digestForm (blockFirst (blocks n - 1)) j l
-formOf n i Appended j l = appendedForm n j
+-- the form of line l of the step's word j in block i
+unfoldable pub formOf : Circuit → ℕ → Step → ℕ → ℕ → Form
+formOf c i Start j l = startForm j l
+formOf c i Message j l = messageForm c (messageOf c i) (messageBit (messageOf c i) i (32 * j + l)) (blockFirst i + (32 * j + l))
+formOf c i Q j l = qForm (blockFirst i) j l
+formOf c i P1 j l = p1Form (blockFirst i) j l
+formOf c i W j l = wForm (blockFirst i) j l
+formOf c i WPrime j l = wPrimeForm (blockFirst i) j l
+formOf c i U j l = uForm (blockFirst i) (stands (blockFirst i) (begins (messageOf c i) i) j) j l
+formOf c i Ss2 j l = ss2Form (blockFirst i) (stands (blockFirst i) (begins (messageOf c i) i) j) j l
+formOf c i Ff j l = ffForm (blockFirst i) (stands (blockFirst i) (begins (messageOf c i) i) j) j l
+formOf c i Gg j l = ggForm (blockFirst i) (stands (blockFirst i) (begins (messageOf c i) i) j) j l
+formOf c i Tt1 j l = tt1Form (blockFirst i) (stands (blockFirst i) (begins (messageOf c i) i) j) j l
+formOf c i Tt2 j l = tt2Form (blockFirst i) (stands (blockFirst i) (begins (messageOf c i) i) j) j l
+formOf c i P0 j l = p0Form (blockFirst i) j l
+formOf c i Result j l = resultForm (blockFirst i) (begins (messageOf c i) i) j l
+formOf c i Digest j l = digestForm (blockFirst (blockCount c - 1)) j l
+formOf c i Appended j l = appendedForm c j
 
--- the form and the row of row number k, for a record of n bits
-unfoldable pub formAt : ℕ → ℕ → Form
-formAt n k =
-    formOf n (placeAt (blocks n) k .block) (placeAt (blocks n) k .step) (placeAt (blocks n) k .index) (placeAt (blocks n) k .line)
+-- the form and the row of row number k
+unfoldable pub formAt : Circuit → ℕ → Form
+formAt c k =
+    formOf c (placeAt (blockCount c) k .block) (placeAt (blockCount c) k .step) (placeAt (blockCount c) k .index)
+    (placeAt (blockCount c) k .line)
 
-unfoldable pub rowAt : ℕ → ℕ → Row
-rowAt n k = rowOf (formAt n k)
+unfoldable pub rowAt : Circuit → ℕ → Row
+rowAt c k = rowOf (formAt c k)

@@ -6,9 +6,9 @@ use Rattle.block.specs.Steps.{blockLayout, blockRows, place}
 use Rattle.block.specs.declared.place.Place.{Place}
 use Rattle.block.specs.declared.step.Step.the-variants.{Start, Digest, Appended}
 use Rattle.block.specs.declared.step.Step.{Step}
-use Rattle.circuit.specs.Circuits.{appendedRows}
+use Rattle.circuit.specs.Circuits.{appendedRows, blockCount}
+use Rattle.circuit.specs.declared.circuits.Circuit.{Circuit}
 use Rattle.encoding.specs.Sequence.{beside, grid}
-use Rattle.sm3.specs.Message.{blocks}
 
 -- "256 fixed start rows", and as many for the digest
 abbrev pub stateRows : ℕ
@@ -30,6 +30,5 @@ placeAt c = frameLayout c place
 abbrev pub frameRows : ℕ → ℕ → ℕ
 frameRows c m = 512 + blockRows * c + m
 
--- .. for a record of n bits
-unfoldable pub rowCount : ℕ → ℕ
-rowCount n = frameRows (blocks n) (appendedRows n)
+unfoldable pub rowCount : Circuit → ℕ
+rowCount c = frameRows (blockCount c) (appendedRows c)

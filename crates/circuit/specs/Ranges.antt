@@ -3,9 +3,16 @@
 use Prim.Native.Nat.{ℕ, _+_, _<_, _≤_}
 use Rattle.block.specs.Ranges.{InStep}
 use Rattle.block.specs.declared.place.Place.{Place}
-use Rattle.circuit.specs.Circuits.{appendedRows}
+use Rattle.circuit.specs.Circuits.{appendedRows, blockCount}
+use Rattle.circuit.specs.declared.circuits.Circuit.the-variants.{Record, Axles}
+use Rattle.circuit.specs.declared.circuits.Circuit.{Circuit}
 use Rattle.circuit.specs.declared.message.MessageSpan.{MessageSpan}
 use Rattle.sm3.specs.Message.{blocks, mostBits}
+
+-- "0 to" 8,127 bits; "with bounds from 2 to 99", the lower no greater than the upper: a circuit that is not refused
+abbrev pub Allowed : Circuit → Type 0
+Allowed (Record n) = n ≤ mostBits
+Allowed (Axles lower upper) = (2 ≤ lower) × (lower ≤ upper) × (upper ≤ 99)
 
 -- the most blocks, and the most wires and rows, with an appendix of 2,312 each
 abbrev pub mostBlocks : ℕ
@@ -21,9 +28,10 @@ mostRows = 1004744
 abbrev pub InFrame : ℕ → ℕ → Place → Type 0
 InFrame c m p = (p .block < c) × InStep m (p .step) (p .index) (p .line)
 
--- .. for a record of n bits
-abbrev pub InCircuit : ℕ → Place → Type 0
-InCircuit n p = InFrame (blocks n) (appendedRows n) p
+-- .. of a circuit
+pub record InCircuit (c : Circuit) (p : Place) : Type 0 where
+  pub block : p .block < blockCount c
+  pub step : InStep (appendedRows c) (p .step) (p .index) (p .line)
 
 -- block i is one of the message m
 pub record OfMessage (m : MessageSpan) (i : ℕ) : Type 0 where

@@ -1,4 +1,6 @@
-// The constraint rows around and over the blocks: wires, messages, places, the row of a number.
+// The constraint rows around and over the blocks: circuits, wires, messages, places, the row of a number.
+pub mod axles;
+pub mod circuits;
 pub mod message;
 pub mod place;
 pub mod row;

@@ -1,12 +1,9 @@
-// The messages that a circuit's blocks belong to.
+// Messages, and what a block of a message begins with.
 ghost use mathlib.Core.Path.{_≡_};
-ghost use Prim.Native.Nat.{_≤_, _<_};
 ghost use Rattle.block.specs.Bounds.{BlockFrom};
 ghost use Rattle.circuit.specs.Circuit.{beginsAt};
-ghost use Rattle.circuit.specs.Circuits.{messageOf};
 ghost use Rattle.circuit.specs.Ranges.{OfMessage};
 ghost use Rattle.circuit.specs.Wires.{blockFirst};
-ghost use Rattle.sm3.specs.Message.{blocks, mostBits};
 use crate::wire::START;
 use crate::wire::block_first;
 use block::wire::RESULT;
@@ -16,14 +13,6 @@ use refusal::numbers::WireNumber;
 pub struct MessageSpan {
     pub bits: u64,
     pub begin: u64,
-}
-
-// The message that block i belongs to, for a record of so many bits: one for all of its blocks.
-pub fn message_of(bits: u64, i: u64) -> MessageSpan
-    requires { ⌜ (bits ≤ mostBits) × (i < blocks bits) ⌝ }
-    ensures { λ r. ⌜ (r ≡ messageOf bits i) × OfMessage r i ⌝ }
-{
-    MessageSpan { bits, begin: 0 }
 }
 
 // The first wire of the eight words that block i of a message begins with: the start words where the message begins, else the

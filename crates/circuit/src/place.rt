@@ -2,8 +2,10 @@
 ghost use mathlib.Core.Path.{_≡_};
 ghost use Prim.Native.Nat.{_+_, _<_, _≤_};
 ghost use Rattle.circuit.specs.Places.{placeAt, rowCount};
-ghost use Rattle.circuit.specs.Ranges.{mostBlocks, mostRows};
-ghost use Rattle.sm3.specs.Message.{mostBits};
+ghost use Rattle.circuit.specs.Ranges.{Allowed, mostBlocks, mostRows};
+use crate::circuits::Circuit;
+use crate::circuits::appended_rows;
+use crate::circuits::block_count;
 use block::place::BLOCK_ROWS;
 use block::place::Place;
 use block::place::block_place;
@@ -11,17 +13,16 @@ use block::place::step_place;
 use block::step::Step;
 use block::step::lines_of;
 use refusal::numbers::RowNumber;
-use sm3::message::block_count;
 
 // How many rows the start words have, and the digest.
 pub const STATE_ROWS: u64 = 8 * 32;
 
-// How many rows a record of so many bits has.
-pub fn row_count(bits: u64) -> u64
-    requires { ⌜ bits ≤ mostBits ⌝ }
-    ensures { λ r. ⌜ (r ≡ rowCount bits) × (r ≤ mostRows) ⌝ }
+// How many rows a circuit has.
+pub fn row_count(circuit: Circuit) -> u64
+    requires { ⌜ Allowed circuit ⌝ }
+    ensures { λ r. ⌜ (r ≡ rowCount circuit) × (r ≤ mostRows) ⌝ }
 {
-    512 + BLOCK_ROWS * block_count(bits)
+    512 + BLOCK_ROWS * block_count(circuit) + appended_rows(circuit)
 }
 
 // The place of a row of a circuit of so many blocks.

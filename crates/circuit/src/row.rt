@@ -4,9 +4,10 @@ ghost use lib.ListN.{length};
 ghost use Rattle.block.specs.Steps.{place};
 ghost use Rattle.circuit.specs.Circuit.{formOf, rowAt};
 ghost use Rattle.circuit.specs.Places.{rowCount};
-ghost use Rattle.circuit.specs.Ranges.{InCircuit};
+ghost use Rattle.circuit.specs.Ranges.{Allowed, InCircuit};
 ghost use Rattle.forms.specs.Terms.{Filled, termRoom, unsorted};
-ghost use Rattle.sm3.specs.Message.{mostBits};
+use crate::circuits::Circuit;
+use crate::circuits::block_count;
 use crate::place::place_of;
 use crate::step_form::form_of;
 use block::place::Place;
@@ -15,22 +16,21 @@ use forms::sort::sort_run;
 use forms::terms::Counts;
 use forms::terms::fill;
 use refusal::numbers::RowNumber;
-use sm3::message::block_count;
 
 // The terms of the row at a place, in the order of the equation. The place comes in its parts, which pass in registers.
 pub fn place_terms(
-    bits: u64,
+    circuit: Circuit,
     block: u64,
     step: Step,
     index: u64,
     line: u64,
     terms: &mut [u64],
 ) -> Counts
-    requires { ⌜ (bits ≤ mostBits) × InCircuit bits (place step block index line) × (termRoom ≤ length (now terms)) ⌝ }
-    ensures { λ r. ⌜ Filled (unsorted (formOf bits block step index line)) r (now (terms .entry)) (now (terms .exit)) ⌝ }
+    requires { ⌜ Allowed circuit × InCircuit circuit (place step block index line) × (termRoom ≤ length (now terms)) ⌝ }
+    ensures { λ r. ⌜ Filled (unsorted (formOf circuit block step index line)) r (now (terms .entry)) (now (terms .exit)) ⌝ }
 {
     let form = form_of(
-        bits,
+        circuit,
         Place {
             block,
             step,
@@ -41,14 +41,14 @@ pub fn place_terms(
     fill(form, terms)
 }
 
-// The terms of a row of a record of so many bits, each part by rising wire.
-pub fn row_terms(bits: u64, row: RowNumber, terms: &mut [u64]) -> Counts
-    requires { ⌜ (bits ≤ mostBits) × (row .0 < rowCount bits) × (termRoom ≤ length (now terms)) ⌝ }
-    ensures { λ r. ⌜ Filled (rowAt bits (row .0)) r (now (terms .entry)) (now (terms .exit)) ⌝ }
+// The terms of a row of a circuit, each part by rising wire.
+pub fn row_terms(circuit: Circuit, row: RowNumber, terms: &mut [u64]) -> Counts
+    requires { ⌜ Allowed circuit × (row .0 < rowCount circuit) × (termRoom ≤ length (now terms)) ⌝ }
+    ensures { λ r. ⌜ Filled (rowAt circuit (row .0)) r (now (terms .entry)) (now (terms .exit)) ⌝ }
 {
-    let p = place_of(block_count(bits), row);
+    let p = place_of(block_count(circuit), row);
     let step = p.step;
-    let counts = place_terms(bits, p.block, step, p.index, p.line, terms);
+    let counts = place_terms(circuit, p.block, step, p.index, p.line, terms);
     let a = counts.a;
     let b = a + counts.b;
     let c = b + counts.c;

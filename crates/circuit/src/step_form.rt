@@ -1,16 +1,16 @@
 // The form of a row, by its place.
 ghost use mathlib.Core.Path.{_≡_};
-ghost use Prim.Native.Nat.{_≤_};
 ghost use Rattle.circuit.specs.Circuit.{formOf};
-ghost use Rattle.circuit.specs.Ranges.{InCircuit};
+ghost use Rattle.circuit.specs.Ranges.{Allowed, InCircuit};
 ghost use Rattle.forms.specs.Terms.{Fit};
-ghost use Rattle.sm3.specs.Message.{mostBits};
 
 pub mod frame;
 pub mod message;
 
+use crate::circuits::Circuit;
+use crate::circuits::appended_form;
+use crate::circuits::message_of;
 use crate::message::beginning;
-use crate::message::message_of;
 use crate::wire::block_first;
 use block::expansion_form::p1_form;
 use block::expansion_form::q_form;
@@ -27,26 +27,25 @@ use block::round_form::tt2_form;
 use block::round_form::u_form;
 use block::step::Step;
 use forms::form::Form;
-use frame::appended_form;
 use frame::digest_form;
 use frame::start_form;
 use message::message_form;
 
-// The form of the row at a place, for a record of so many bits.
-pub fn form_of(bits: u64, place: Place) -> Form
-    requires { ⌜ (bits ≤ mostBits) × InCircuit bits place ⌝ }
-    ensures { λ f. ⌜ (f ≡ formOf bits (place .block) (place .step) (place .index) (place .line)) × Fit f ⌝ }
+// The form of the row at a place of a circuit.
+pub fn form_of(circuit: Circuit, place: Place) -> Form
+    requires { ⌜ Allowed circuit × InCircuit circuit place ⌝ }
+    ensures { λ f. ⌜ (f ≡ formOf circuit (place .block) (place .step) (place .index) (place .line)) × Fit f ⌝ }
 {
     let i = place.block;
     let j = place.index;
     let l = place.line;
     let first = block_first(i);
-    let message = message_of(bits, i);
+    let message = message_of(circuit, i);
     let begin = beginning(message, i);
     let step = place.step;
     match step {
         Step::Start => start_form(j, l),
-        Step::Message => message_form(bits, message, i, j, l),
+        Step::Message => message_form(circuit, message, i, j, l),
         Step::Q => q_form(first, j, l),
         Step::P1 => p1_form(first, j, l),
         Step::W => w_form(first, j, l),
@@ -59,7 +58,7 @@ pub fn form_of(bits: u64, place: Place) -> Form
         Step::Tt2 => tt2_form(first, begin, j, l),
         Step::P0 => p0_form(first, j, l),
         Step::Result => result_form(first, begin, j, l),
-        Step::Digest => digest_form(bits, j, l),
-        Step::Appended => appended_form(bits, j),
+        Step::Digest => digest_form(circuit, j, l),
+        Step::Appended => appended_form(circuit, j),
     }
 }

@@ -1,12 +1,13 @@
-// The wires of a circuit: the constant 1, the digest, the start words, the blocks.
+// The wires of a circuit: the constant 1, the digest, the start words, the blocks, and what is appended.
 ghost use mathlib.Core.Path.{_≡_};
 ghost use Prim.Native.Nat.{_+_, _<_, _≤_};
 ghost use Rattle.block.specs.Bounds.{BlockAt};
-ghost use Rattle.circuit.specs.Ranges.{mostBlocks, mostWires};
+ghost use Rattle.circuit.specs.Ranges.{Allowed, mostBlocks, mostWires};
 ghost use Rattle.circuit.specs.Wires.{wireCount, blockFirst};
-ghost use Rattle.sm3.specs.Message.{mostBits};
+use crate::circuits::Circuit;
+use crate::circuits::appended_wires;
+use crate::circuits::block_count;
 use refusal::numbers::WireNumber;
-use sm3::message::block_count;
 
 // The first wire of the digest; wire 0 is the constant 1.
 pub const DIGEST: u64 = 1;
@@ -20,12 +21,12 @@ pub const FIRST_BLOCK: u64 = 513;
 // How many wires a block has.
 pub const BLOCK_WIRES: u64 = 22528;
 
-// How many wires a record of so many bits has.
-pub fn wire_count(bits: u64) -> u64
-    requires { ⌜ bits ≤ mostBits ⌝ }
-    ensures { λ r. ⌜ (r ≡ wireCount bits) × (257 ≤ r) × (r ≤ mostWires) ⌝ }
+// How many wires a circuit has.
+pub fn wire_count(circuit: Circuit) -> u64
+    requires { ⌜ Allowed circuit ⌝ }
+    ensures { λ r. ⌜ (r ≡ wireCount circuit) × (257 ≤ r) × (r ≤ mostWires) ⌝ }
 {
-    FIRST_BLOCK + BLOCK_WIRES * block_count(bits)
+    FIRST_BLOCK + BLOCK_WIRES * block_count(circuit) + appended_wires(circuit)
 }
 
 // The first wire of block i.

@@ -4,10 +4,12 @@ ghost use mathlib.Core.Path.{_≡_};
 ghost use Prim.Native.Nat.{ℕ, _<_};
 ghost use Rattle.forms.specs.Bounds.{Small, Within};
 ghost use Rattle.forms.specs.Positions.{rotatedBy, standing};
-ghost use Rattle.forms.specs.Terms.{Fit};
+ghost use Rattle.forms.specs.Terms.{Fit, FitDifference};
 ghost use Rattle.forms.specs.WordForms.{choiceOf, paired, summed, xorOfTwo};
+ghost use Rattle.forms.specs.WordForms as words;
 ghost use Rattle.forms.specs.declared.form.Addends.{Addends};
 ghost use Rattle.forms.specs.declared.form.Form.the-variants.{Majority, XorOfThree};
+use crate::form::Digits;
 use crate::form::Form;
 use crate::position::WordPosition;
 use crate::position::rotated;
@@ -96,4 +98,30 @@ pub fn permuted(from: WireNumber, near: u64, far: u64, to: WireNumber, l: u64) -
     let z = rotated(far, x);
     let r = word_from(to);
     pair(true, x, y, z, r, l)
+}
+
+// The bits from r on are the digits less the bound where `above` is true, else the bound less the digits.
+pub fn subtracted(
+    digits: Digits,
+    above: bool,
+    bound: u64,
+    width: u64,
+    r: WireNumber,
+    l: u64,
+) -> Form
+    requires { ⌜ FitDifference digits bound width r × Small l ⌝ }
+    ensures { λ f. ⌜ (f ≡ words.subtracted digits above bound width (r .0) l) × Fit f ⌝ }
+{
+    if l < width {
+        return Form::Bit {
+            w: WireNumber(r.0 + l),
+        };
+    }
+    Form::Difference {
+        digits,
+        above,
+        bound,
+        width,
+        r,
+    }
 }

@@ -14,9 +14,10 @@ use Rattle.block.specs.Wires.{resultAt, resultFirst}
 use Rattle.block.specs.declared.step.Step.the-variants.{Message}
 use Rattle.circuit.proofs.place.FormLayout.{form-at, wholeForms}
 use Rattle.circuit.specs.Circuit.{begins, digestForm, formAt, formOf, startForm}
-use Rattle.circuit.specs.Circuits.{appendedForm, appendedRows, messageOf}
+use Rattle.circuit.specs.Circuits.{appendedForm, appendedRows, blockCount, messageOf}
 use Rattle.circuit.specs.Places.{frameLayout, rowCount}
 use Rattle.circuit.specs.Wires.{blockFirst, digestFirst, firstBlock, frameWires, startFirst}
+use Rattle.circuit.specs.declared.circuits.Circuit.{Circuit}
 use Rattle.encoding.proofs.Sequence.{beside-first, beside-then, each-beside, each-iff, each-same, grid-at}
 use Rattle.encoding.specs.Sequence.{beside, grid}
 use Rattle.forms.proofs.exact.Parts.{agree-beside, agree-row}
@@ -26,7 +27,6 @@ use Rattle.forms.specs.Rows.{Satisfied, rowOf}
 use Rattle.forms.specs.WordWires.{wordWires}
 use Rattle.forms.specs.declared.form.Form.{Form}
 use Rattle.sm3.proofs.Bits.{bit-lt}
-use Rattle.sm3.specs.Message.{blocks}
 use Rattle.sm3.specs.Sm3.{start, wordOf}
 use Rattle.sm3.specs.Words.{bit}
 use Rattle.sm3.specs.declared.state.State.{State}
@@ -52,35 +52,35 @@ module _ (a : ℕ → ℕ) (J : Judged a) where
       (equal-row a J (digestFirst + 32 * k + i) (resultFirst F k + i))))
 
 -- the rows of block i
-abbrev pub blockRowsOf : ℕ → ℕ → ℕ → Form
-blockRowsOf n i = beside 512 (grid 32 (formOf n i Message)) (blockForms (blockFirst i) (begins (messageOf n i) i))
+abbrev pub blockRowsOf : Circuit → ℕ → ℕ → Form
+blockRowsOf C i = beside 512 (grid 32 (formOf C i Message)) (blockForms (blockFirst i) (begins (messageOf C i) i))
 
-module _ (n : ℕ) (a : ℕ → ℕ) where
-  pub rows-apart : Holds a (rowCount n) (formAt n)
+module _ (C : Circuit) (a : ℕ → ℕ) where
+  pub rows-apart : Holds a (rowCount C) (formAt C)
       ↔ (Holds a 256 (grid 32 startForm)
-      × (Holds a (blockRows * blocks n) (grid blockRows (blockRowsOf n))
-      × (Holds a 256 (grid 32 (digestForm (blockFirst (blocks n - 1)))) × Holds a (appendedRows n) (appendedForm n))))
+      × (Holds a (blockRows * blockCount C) (grid blockRows (blockRowsOf C))
+      × (Holds a 256 (grid 32 (digestForm (blockFirst (blockCount C - 1)))) × Holds a (appendedRows C) (appendedForm C))))
   unfolding frameLayout blockLayout roundsLayout roundLayout expansionLayout formOf blockForms roundsForms roundForms expansionForms rowCount
   rows-apart =
-      let c : ℕ = blockRows * blocks n in
-      let all : 256 + (c + (256 + appendedRows n)) ≡ rowCount n = omega arith in
-      Iff·trans (each-same (λ k f. Satisfied a (rowOf f)) (rowCount n) (λ k. k) (formAt n) (wholeForms n) (form-at n))
+      let c : ℕ = blockRows * blockCount C in
+      let all : 256 + (c + (256 + appendedRows C)) ≡ rowCount C = omega arith in
+      Iff·trans (each-same (λ k f. Satisfied a (rowOf f)) (rowCount C) (λ k. k) (formAt C) (wholeForms C) (form-at C))
       (Iff·trans
-      (subst (λ m. Holds a m (wholeForms n) ↔ Holds a (256 + (c + (256 + appendedRows n))) (wholeForms n)) all Iff·rfl)
-      (Iff·trans (each-beside (λ k f. Satisfied a (rowOf f)) 256 (c + (256 + appendedRows n)) _ _)
+      (subst (λ m. Holds a m (wholeForms C) ↔ Holds a (256 + (c + (256 + appendedRows C))) (wholeForms C)) all Iff·rfl)
+      (Iff·trans (each-beside (λ k f. Satisfied a (rowOf f)) 256 (c + (256 + appendedRows C)) _ _)
       (and-given Iff·rfl
       (λ start.
-      Iff·trans (each-beside (λ k f. Satisfied a (rowOf f)) c (256 + appendedRows n) _ _)
-      (and-given Iff·rfl (λ blocks. each-beside (λ k f. Satisfied a (rowOf f)) 256 (appendedRows n) _ _))))))
+      Iff·trans (each-beside (λ k f. Satisfied a (rowOf f)) c (256 + appendedRows C) _ _)
+      (and-given Iff·rfl (λ blocks. each-beside (λ k f. Satisfied a (rowOf f)) 256 (appendedRows C) _ _))))))
 
 -- row k of block i
-pub block-row : (n i k : ℕ) → i < blocks n → k < blockRows → formAt n (256 + (blockRows * i + k)) ≡ blockRowsOf n i k
+pub block-row : (C : Circuit) (i k : ℕ) → i < blockCount C → k < blockRows → formAt C (256 + (blockRows * i + k)) ≡ blockRowsOf C i k
 unfolding frameLayout blockLayout roundsLayout roundLayout expansionLayout formOf blockForms roundsForms roundForms expansionForms rowCount
-block-row n i k l h =
-    form-at n (256 + (blockRows * i + k)) (omega arith)
+block-row C i k l h =
+    form-at C (256 + (blockRows * i + k)) (omega arith)
     ∙ beside-then 256 _ _ (blockRows * i + k)
-    ∙ beside-first (blockRows * blocks n) _ _ (blockRows * i + k) (omega arith)
-    ∙ grid-at blockRows (blockRowsOf n) i k h
+    ∙ beside-first (blockRows * blockCount C) _ _ (blockRows * i + k) (omega arith)
+    ∙ grid-at blockRows (blockRowsOf C) i k h
 
 pub wires-apart : (a : ℕ → ℕ) (c : ℕ) (S : State) (rest : ℕ → ℕ) → Agree a 0 (firstBlock + c) (frameWires S rest)
     ↔ (Agree a 0 1 (λ k. 1)

@@ -15,6 +15,7 @@ use Rattle.circuit.proofs.exact.AllBlocks.{HasEarlier, block-result}
 use Rattle.circuit.specs.Circuit.{begins, formOf, messageBit, messageForm}
 use Rattle.circuit.specs.Circuits.{contentForm, messageOf}
 use Rattle.circuit.specs.Wires.{blockFirst, startFirst}
+use Rattle.circuit.specs.declared.circuits.Circuit.{Circuit}
 use Rattle.circuit.specs.declared.message.MessageSpan.{MessageSpan}
 use Rattle.encoding.proofs.Sequence.{each-iff}
 use Rattle.encoding.specs.Sequence.{grid}
@@ -47,33 +48,33 @@ module _ (a : ℕ → ℕ) (J : Judged a) where
       (block-result a B b (i - 1) (earlier (i - 1) (omega (arith, more .0))))))
 
   -- the row of bit k of the message m with the content r, on wire w
-  message-row : (n : ℕ) (m : MessageSpan) (r : ℕ → ℕ) (k w : ℕ)
-      → (k < m .bits → (Satisfied a (rowOf (contentForm n (record { 0 = w }))) ↔ (a w ≡ r k)))
-      → (Satisfied a (rowOf (messageForm n m k w)) ↔ (a w ≡ message (m .bits) r k))
+  message-row : (C : Circuit) (m : MessageSpan) (r : ℕ → ℕ) (k w : ℕ)
+      → (k < m .bits → (Satisfied a (rowOf (contentForm C (record { 0 = w }))) ↔ (a w ≡ r k)))
+      → (Satisfied a (rowOf (messageForm C m k w)) ↔ (a w ≡ message (m .bits) r k))
   unfolding messageForm
-  message-row n m r k w content =
+  message-row C m r k w content =
       of-cond (λ f. Satisfied a (rowOf f) ↔ (a w ≡ message (m .bits) r k)) (ltb k (m .bits))
       (λ t.
       let below = ltb-true k (m .bits) t in
-      subst (λ x. Satisfied a (rowOf (contentForm n (record { 0 = w }))) ↔ (a w ≡ x)) (sym (message-content (m .bits) r k below)) (content below))
+      subst (λ x. Satisfied a (rowOf (contentForm C (record { 0 = w }))) ↔ (a w ≡ x)) (sym (message-content (m .bits) r k below)) (content below))
       (λ t.
       subst (λ x. Satisfied a (rowOf (Fixed (record { 0 = w }) (message (m .bits) (λ i. 0) k))) ↔ (a w ≡ x))
       (message-padding (m .bits) (λ i. 0) r k (ltb-false k (m .bits) t))
       (fixed-row a J w (message (m .bits) (λ i. 0) k) (message-lt (m .bits) (λ i. 0) (λ i l. lit< tt) k)))
 
   -- the rows of the 512 bits of block i
-  pub message-run : (n i : ℕ) (r : ℕ → ℕ)
-      → ((k : ℕ) → k < 512 → messageBit (messageOf n i) i k < messageOf n i .bits
-      → (Satisfied a (rowOf (contentForm n (record { 0 = blockFirst i + k }))) ↔ (a (blockFirst i + k) ≡ r (messageBit (messageOf n i) i k))))
-      → (Holds a 512 (grid 32 (formOf n i Message))
-      ↔ Agree a (blockFirst i) 512 (blockBits (message (messageOf n i .bits) r) (i - messageOf n i .begin)))
+  pub message-run : (C : Circuit) (i : ℕ) (r : ℕ → ℕ)
+      → ((k : ℕ) → k < 512 → messageBit (messageOf C i) i k < messageOf C i .bits
+      → (Satisfied a (rowOf (contentForm C (record { 0 = blockFirst i + k }))) ↔ (a (blockFirst i + k) ≡ r (messageBit (messageOf C i) i k))))
+      → (Holds a 512 (grid 32 (formOf C i Message))
+      ↔ Agree a (blockFirst i) 512 (blockBits (message (messageOf C i .bits) r) (i - messageOf C i .begin)))
   unfolding formOf grid blockBits
-  message-run n i r content =
+  message-run C i r content =
       each-iff 512 _ _
       (λ k l.
       let bit : 32 * (k / 32) + k % 32 ≡ k = omega arith in
       subst
-      (λ (x : ℕ). Satisfied a (rowOf (messageForm n (messageOf n i) (messageBit (messageOf n i) i x) (blockFirst i + x)))
-      ↔ (a (blockFirst i + k) ≡ message (messageOf n i .bits) r (messageBit (messageOf n i) i k)))
+      (λ (x : ℕ). Satisfied a (rowOf (messageForm C (messageOf C i) (messageBit (messageOf C i) i x) (blockFirst i + x)))
+      ↔ (a (blockFirst i + k) ≡ message (messageOf C i .bits) r (messageBit (messageOf C i) i k)))
       (sym bit)
-      (message-row n (messageOf n i) r (messageBit (messageOf n i) i k) (blockFirst i + k) (content k l)))
+      (message-row C (messageOf C i) r (messageBit (messageOf C i) i k) (blockFirst i + k) (content k l)))

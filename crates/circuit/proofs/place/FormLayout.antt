@@ -6,22 +6,22 @@ use Rattle.block.specs.declared.place.Place.{Place}
 use Rattle.circuit.proofs.place.PlaceRange.{some-blocks}
 use Rattle.circuit.proofs.place.WordByWord.{word-by-word}
 use Rattle.circuit.specs.Circuit.{formAt, formOf}
-use Rattle.circuit.specs.Circuits.{appendedRows}
+use Rattle.circuit.specs.Circuits.{appendedRows, blockCount}
 use Rattle.circuit.specs.Places.{frameLayout, placeAt, rowCount}
+use Rattle.circuit.specs.declared.circuits.Circuit.{Circuit}
 use Rattle.encoding.proofs.Sequence.{Each, beside-first, beside-then, each-beside, each-grid, grid-at}
 use Rattle.encoding.specs.Sequence.{beside, grid}
 use Rattle.forms.specs.declared.form.Form.{Form}
-use Rattle.sm3.specs.Message.{blocks}
 
-module _ (n : ℕ) where
+module _ (C : Circuit) where
   -- the form of a place
   abbrev form : Place → Form
-  form p = formOf n (p .block) (p .step) (p .index) (p .line)
+  form p = formOf C (p .block) (p .step) (p .index) (p .line)
 
   abbrev pub wholeForms : ℕ → Form
-  wholeForms = frameLayout (blocks n) (λ s i. formOf n i s)
+  wholeForms = frameLayout (blockCount C) (λ s i. formOf C i s)
 
-  pub form-at : (k : ℕ) → k < rowCount n → formAt n k ≡ wholeForms k
+  pub form-at : (k : ℕ) → k < rowCount C → formAt C k ≡ wholeForms k
   unfolding formAt placeAt rowCount
   form-at =
       word-by-word (λ c f g. Each c (λ k. form (f k) ≡ g k))
@@ -29,4 +29,4 @@ module _ (n : ℕ) where
       each-beside (λ k p. form p ≡ beside c f′ g′ k) c m f g .1
       (λ k l. a k l ∙ sym (beside-first c f′ g′ k l), λ k l. b k l ∙ sym (beside-then c f′ g′ k)))
       (λ c m f f′ a. each-grid (λ k p. form p ≡ grid m f′ k) c m f .1 (λ j h l b. a j h l b ∙ sym (grid-at m f′ j l b)))
-      (blocks n) (appendedRows n) (some-blocks n) place (λ s i. formOf n i s) (λ s i j a b l h. refl)
+      (blockCount C) (appendedRows C) (some-blocks C) place (λ s i. formOf C i s) (λ s i j a b l h. refl)

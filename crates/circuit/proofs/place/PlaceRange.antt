@@ -3,11 +3,13 @@ use Prim.Native.Nat.{ℕ, _<_, _≤_}
 use native.Mathlib.Omega.{arith}
 use Rattle.block.specs.Steps.{place}
 use Rattle.circuit.proofs.place.WordByWord.{word-by-word}
-use Rattle.circuit.specs.Circuits.{appendedRows}
+use Rattle.circuit.specs.Circuits.{appendedRows, blockCount}
 use Rattle.circuit.specs.Places.{frameRows, placeAt, rowCount}
-use Rattle.circuit.specs.Ranges.{InCircuit, InFrame, mostRows}
+use Rattle.circuit.specs.Ranges.{Allowed, InCircuit, InFrame, mostBlocks, mostRows}
+use Rattle.circuit.specs.declared.circuits.Circuit.the-variants.{Record, Axles}
+use Rattle.circuit.specs.declared.circuits.Circuit.{Circuit}
 use Rattle.encoding.proofs.Sequence.{Each, each-beside, each-grid}
-use Rattle.sm3.specs.Message.{blocks, mostBits}
+use Rattle.sm3.specs.Message.{blocks}
 
 pub in-frame : (c m : ℕ) → 0 < c → (k : ℕ) → k < frameRows c m → InFrame c m (placeAt c k)
 unfolding placeAt
@@ -17,14 +19,25 @@ in-frame c m some =
     (λ n d f f′. each-grid (λ k. InFrame c m) n d f .1)
     c m some place place (λ s i j a b l h. (a, b l h))
 
-pub some-blocks : (n : ℕ) → 0 < blocks n
+pub some-blocks : (C : Circuit) → 0 < blockCount C
 unfolding blocks
-some-blocks n = omega arith
+some-blocks (Record n) = omega arith
+some-blocks (Axles lower upper) = omega arith
 
-pub in-circuit : (n k : ℕ) → k < rowCount n → InCircuit n (placeAt (blocks n) k)
+pub few-blocks : (C : Circuit) → Allowed C → blockCount C ≤ 16
+unfolding blocks
+few-blocks (Record n) h = omega arith
+few-blocks (Axles lower upper) h = omega arith
+
+few-rows : (C : Circuit) → appendedRows C ≤ 34
+few-rows (Record n) = omega arith
+few-rows (Axles lower upper) = omega arith
+
+pub in-circuit : (C : Circuit) (k : ℕ) → k < rowCount C → InCircuit C (placeAt (blockCount C) k)
 unfolding rowCount
-in-circuit n = in-frame (blocks n) (appendedRows n) (some-blocks n)
+in-circuit C k l =
+    let at = in-frame (blockCount C) (appendedRows C) (some-blocks C) k l in record { block = at .0; step = at .1 }
 
-pub most-rows : (n : ℕ) → n ≤ mostBits → rowCount n ≤ mostRows
-unfolding rowCount blocks
-most-rows n h = omega arith
+pub most-rows : (C : Circuit) → Allowed C → rowCount C ≤ mostRows
+unfolding rowCount
+most-rows C h = omega (arith, few-blocks C h, few-rows C)

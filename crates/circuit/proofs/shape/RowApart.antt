@@ -10,17 +10,19 @@ use Rattle.block.specs.Steps.{place}
 use Rattle.block.specs.Wires.{wiresPerBlock}
 use Rattle.block.specs.declared.step.Step.the-variants.{Start, Message, Q, P1, W, WPrime, U, Ss2, Ff, Gg, Tt1, Tt2, P0, Result, Digest, Appended}
 use Rattle.block.specs.declared.step.Step.{Step}
-use Rattle.circuit.proofs.place.PlaceRange.{in-circuit}
+use Rattle.circuit.proofs.place.PlaceRange.{in-circuit, some-blocks}
+use Rattle.circuit.proofs.shape.AxlesApart.{axle-apart}
 use Rattle.circuit.specs.Circuit.{begins, beginsAt, digestForm, formAt, formOf, messageForm, startForm}
-use Rattle.circuit.specs.Circuits.{appendedRows, messageOf}
+use Rattle.circuit.specs.Circuits.{appendedForm, appendedRows, blockCount, contentForm, messageOf}
 use Rattle.circuit.specs.Places.{placeAt, rowCount}
-use Rattle.circuit.specs.Ranges.{InCircuit}
+use Rattle.circuit.specs.Ranges.{Allowed, InCircuit}
 use Rattle.circuit.specs.Wires.{blockFirst, wireCount}
+use Rattle.circuit.specs.declared.circuits.Circuit.the-variants.{Record, Axles}
+use Rattle.circuit.specs.declared.circuits.Circuit.{Circuit}
 use Rattle.circuit.specs.declared.message.MessageSpan.{MessageSpan}
 use Rattle.forms.proofs.shape.All.{of-cond}
 use Rattle.forms.proofs.shape.Apart.{Apart}
 use Rattle.sm3.proofs.Bounds.{message-lt}
-use Rattle.sm3.specs.Message.{blocks}
 use Rattle.sm3.specs.Words.{bit}
 
 -- the words that a block of a message begins with stand before it
@@ -34,36 +36,49 @@ begins-before m i h =
     lower : (i ≡ m .begin → ⊥) → m .begin < i
     lower n = omega arith
 
-module _ (n : ℕ) where
-  start-apart : (j l : ℕ) → InStep 0 Start j l → Apart (wireCount n) (startForm j l)
+-- a message begins no later than its blocks
+begin-before : (C : Circuit) (i : ℕ) → messageOf C i .begin ≤ i
+begin-before (Record n) i = omega arith
+begin-before (Axles lower upper) i = omega arith
+
+content-apart : (C : Circuit) (m w : ℕ) → 1 ≤ w → w < m → Apart m (contentForm C (record { 0 = w }))
+content-apart (Record n) m w low high = omega arith
+content-apart (Axles lower upper) m w low high = omega arith
+
+appended-apart : (C : Circuit) → Allowed C → (k : ℕ) → k < appendedRows C → Apart (wireCount C) (appendedForm C k)
+appended-apart (Record n) h k l = absurd (omega arith)
+appended-apart (Axles lower upper) h k l = axle-apart lower upper h k l
+
+module _ (C : Circuit) (allowed : Allowed C) where
+  start-apart : (j l : ℕ) → InStep 0 Start j l → Apart (wireCount C) (startForm j l)
   unfolding startForm wireCount bit
   start-apart j l h = omega arith
 
-  digest-apart : (j l : ℕ) → InStep 0 Digest j l → Apart (wireCount n) (digestForm (blockFirst (blocks n - 1)) j l)
-  unfolding digestForm wireCount blocks
-  digest-apart j l h = omega arith
+  digest-apart : (j l : ℕ) → InStep 0 Digest j l → Apart (wireCount C) (digestForm (blockFirst (blockCount C - 1)) j l)
+  unfolding digestForm wireCount
+  digest-apart j l h = omega (arith, some-blocks C)
 
-  module _ (i : ℕ) (h : i < blocks n) where
-    low : 1 ≤ beginsAt (messageOf n i) i
-    low = begins-before (messageOf n i) i (omega arith) .0
+  module _ (i : ℕ) (h : i < blockCount C) where
+    low : 1 ≤ beginsAt (messageOf C i) i
+    low = begins-before (messageOf C i) i (begin-before C i) .0
 
-    lies : beginsAt (messageOf n i) i + 256 ≤ blockFirst i
-    lies = begins-before (messageOf n i) i (omega arith) .1
+    lies : beginsAt (messageOf C i) i + 256 ≤ blockFirst i
+    lies = begins-before (messageOf C i) i (begin-before C i) .1
 
-    last : blockFirst i + wiresPerBlock ≤ wireCount n
+    last : blockFirst i + wiresPerBlock ≤ wireCount C
     unfolding wireCount
     last = omega arith
 
-    message-apart : (m : MessageSpan) (k b : ℕ) → b < 512 → Apart (wireCount n) (messageForm n m k (blockFirst i + b))
+    message-apart : (m : MessageSpan) (k b : ℕ) → b < 512 → Apart (wireCount C) (messageForm C m k (blockFirst i + b))
     unfolding messageForm
     message-apart m k b g =
-        of-cond (Apart (wireCount n)) (ltb k (m .bits)) (λ t. omega (arith, last))
+        of-cond (Apart (wireCount C)) (ltb k (m .bits)) (λ t. content-apart C (wireCount C) (blockFirst i + b) (omega arith) (omega (arith, last)))
         (λ t. omega (arith, last, message-lt (m .bits) (λ i. 0) (λ k h. omega arith) k))
 
-    form-apart : (s : Step) (j l : ℕ) → InStep (appendedRows n) s j l → Apart (wireCount n) (formOf n i s j l)
+    form-apart : (s : Step) (j l : ℕ) → InStep (appendedRows C) s j l → Apart (wireCount C) (formOf C i s j l)
     unfolding formOf begins
     form-apart Start j l g = start-apart j l g
-    form-apart Message j l g = message-apart (messageOf n i) _ (32 * j + l) (omega arith)
+    form-apart Message j l g = message-apart (messageOf C i) _ (32 * j + l) (omega arith)
     form-apart Q j l g = q-apart _ _ _ low lies last j l g
     form-apart P1 j l g = p1-apart _ _ _ low lies last j l g
     form-apart W j l g = w-apart _ _ _ low lies last j l g
@@ -77,13 +92,13 @@ module _ (n : ℕ) where
     form-apart P0 j l g = p0-apart _ _ _ low lies last j (g .1) l (g .2)
     form-apart Result j l g = result-apart _ _ _ low lies last j l (g .1) (g .2)
     form-apart Digest j l g = digest-apart j l g
-    form-apart Appended j l g = absurd (omega arith)
+    form-apart Appended j l g = appended-apart C allowed j (g .1)
 
-  pub place-apart : (s : Step) (i j l : ℕ) → InCircuit n (place s i j l) → Apart (wireCount n) (formOf n i s j l)
-  place-apart s i j l h = form-apart i (h .0) s j l (h .1)
+  pub place-apart : (s : Step) (i j l : ℕ) → InCircuit C (place s i j l) → Apart (wireCount C) (formOf C i s j l)
+  place-apart s i j l h = form-apart i (h .block) s j l (h .step)
 
-  pub row-apart : (k : ℕ) → k < rowCount n → Apart (wireCount n) (formAt n k)
+  pub row-apart : (k : ℕ) → k < rowCount C → Apart (wireCount C) (formAt C k)
   unfolding formAt
   row-apart k l =
-      let q = placeAt (blocks n) k in
-      place-apart (q .step) (q .block) (q .index) (q .line) (in-circuit n k l)
+      let q = placeAt (blockCount C) k in
+      place-apart (q .step) (q .block) (q .index) (q .line) (in-circuit C k l)

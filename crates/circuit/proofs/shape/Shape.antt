@@ -10,8 +10,9 @@ use Rattle.block.specs.declared.step.Step.{Step}
 use Rattle.circuit.proofs.shape.RowApart.{place-apart, row-apart}
 use Rattle.circuit.specs.Circuit.{formAt, formOf, rowAt}
 use Rattle.circuit.specs.Places.{rowCount}
-use Rattle.circuit.specs.Ranges.{InCircuit}
+use Rattle.circuit.specs.Ranges.{Allowed, InCircuit}
 use Rattle.circuit.specs.Wires.{wireCount}
+use Rattle.circuit.specs.declared.circuits.Circuit.{Circuit}
 use Rattle.field.specs.Field.{p}
 use Rattle.forms.proofs.shape.All.{all-append, all-both}
 use Rattle.forms.proofs.shape.Apart.{Parts, letters-few, letters-parts}
@@ -36,18 +37,18 @@ unfolding rowOf terms unsorted
 normal-count f = simp (length-append, normal-length)
 
 -- a row's terms have room
-pub place-few : (n : ℕ) (s : Step) (i j l : ℕ) → InCircuit n (place s i j l) → termCount (formOf n i s j l) ≤ mostTerms
-place-few n s i j l h = letters-few (wireCount n) (formOf n i s j l) (place-apart n s i j l h)
+pub place-few : (C : Circuit) → Allowed C → (s : Step) (i j l : ℕ) → InCircuit C (place s i j l) → termCount (formOf C i s j l) ≤ mostTerms
+place-few C allowed s i j l h = letters-few (wireCount C) (formOf C i s j l) (place-apart C allowed s i j l h)
 
-module _ (n k : ℕ) (below : k < rowCount n) where
-  parts : Parts (wireCount n) (letters (formAt n k))
-  parts = letters-parts (wireCount n) (formAt n k) (row-apart n k below)
+module _ (C : Circuit) (allowed : Allowed C) (k : ℕ) (below : k < rowCount C) where
+  parts : Parts (wireCount C) (letters (formAt C k))
+  parts = letters-parts (wireCount C) (formAt C k) (row-apart C allowed k below)
 
-  pub shape : Shaped (wireCount n) (rowAt n k)
+  pub shape : Shaped (wireCount C) (rowAt C k)
   unfolding rowAt rowOf terms
   shape =
-      let m = wireCount n in
-      let l = letters (formAt n k) in
+      let m = wireCount C in
+      let l = letters (formAt C k) in
       record {
         a = normal-rises (l .A) (parts .a .distinct);
         b = normal-rises (l .B) (parts .b .distinct);
@@ -60,17 +61,17 @@ module _ (n k : ℕ) (below : k < rowCount n) where
             (all-normal (λ t. t .coefficient < p) ts (q .coefficients)))
             l
             parts;
-        few = omega (arith, normal-count (formAt n k), letters-few m (formAt n k) (row-apart n k below));
+        few = omega (arith, normal-count (formAt C k), letters-few m (formAt C k) (row-apart C allowed k below));
       }
 
   -- .. and of the terms in the letters' order
-  pub letters-within : All (λ t. (t .wire .0 < wireCount n) × (t .coefficient < p)) (terms (unsorted (formAt n k)))
+  pub letters-within : All (λ t. (t .wire .0 < wireCount C) × (t .coefficient < p)) (terms (unsorted (formAt C k)))
   unfolding unsorted terms
   letters-within =
-      let m = wireCount n in
+      let m = wireCount C in
       all-parts (λ t. (t .wire .0 < m) × (t .coefficient < p)) nonzero m
       (λ ts q.
       all-nonzero (λ t. (t .wire .0 < m) × (t .coefficient < p)) ts
       (all-both (λ t. t .wire .0 < m) (λ t. t .coefficient < p) ts (q .wires) (q .coefficients)))
-      (letters (formAt n k))
+      (letters (formAt C k))
       parts

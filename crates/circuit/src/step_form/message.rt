@@ -4,11 +4,12 @@ ghost use Prim.Native.Nat.{_+_, _*_, _<_, _≤_};
 ghost use Rattle.block.specs.Ranges.{InStep};
 ghost use Rattle.block.specs.declared.step.Step.the-variants.{Message};
 ghost use Rattle.circuit.specs.Circuit.{messageBit, messageForm};
-ghost use Rattle.circuit.specs.Circuits.{contentForm};
 ghost use Rattle.circuit.specs.Ranges.{OfMessage};
 ghost use Rattle.circuit.specs.Wires.{blockFirst};
 ghost use Rattle.forms.specs.Terms.{Fit};
 ghost use Rattle.sm3.specs.Message.{blocks, message, mostBits};
+use crate::circuits::Circuit;
+use crate::circuits::content_form;
 use crate::message::MessageSpan;
 use crate::wire::block_first;
 use forms::form::Form;
@@ -30,25 +31,17 @@ fn padding_bit(bits: u64, k: u64) -> u64
     (bits >> (end - 1 - k)) % 2
 }
 
-// The form of a bit of a record: its wire is free.
-fn content_form(bits: u64, w: WireNumber) -> Form
-    ensures { λ f. ⌜ (f ≡ contentForm bits w) × Fit f ⌝ }
-{
-    Form::Bit { w }
-}
-
-// Line l of word j of block i, which is one of the message: its content is the circuit's, for a record of so many bits, and its
-// padding is fixed.
-pub fn message_form(bits: u64, message: MessageSpan, i: u64, j: u64, l: u64) -> Form
+// Line l of word j of block i, which is one of the message: its content is the circuit's, and its padding is fixed.
+pub fn message_form(circuit: Circuit, message: MessageSpan, i: u64, j: u64, l: u64) -> Form
     requires { ⌜ OfMessage message i × InStep 0 Message j l ⌝ }
-    ensures { λ f. ⌜ (f ≡ messageForm bits message (messageBit message i (32 * j + l)) (blockFirst i + (32 * j + l))) × Fit f ⌝ }
+    ensures { λ f. ⌜ (f ≡ messageForm circuit message (messageBit message i (32 * j + l)) (blockFirst i + (32 * j + l))) × Fit f ⌝ }
 {
     let b = 32 * j + l;
     let k = 512 * (i - message.begin) + b;
     let first = block_first(i);
     let w = WireNumber(first.0 + b);
     if k < message.bits {
-        return content_form(bits, w);
+        return content_form(circuit, w);
     }
     Form::Fixed {
         w,

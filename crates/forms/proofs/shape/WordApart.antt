@@ -1,5 +1,6 @@
 -- The rows of a word. Their wires are apart where the words' wires at each position are: words that do not overlap are apart,
 -- and so is a word from itself rotated.
+use mathlib.Core.Bool.{Bool}
 use mathlib.Core.List.{List, [], _∷_, map}
 use mathlib.Core.Path.{_≡_}
 use Prim.Native.Nat.{ℕ, _/_, _%_, _<_, _≤_}
@@ -9,12 +10,14 @@ use lib.Dec.{eqb, ltb}
 use Rattle.forms.proofs.shape.All.{all-map, of-cond}
 use Rattle.forms.proofs.shape.Apart.{Apart, ApartWires}
 use Rattle.forms.proofs.shape.Clear.{ClearWords, Under}
+use Rattle.forms.proofs.shape.DifferenceApart.{ApartDifference}
 use Rattle.forms.proofs.shape.SumApart.{ApartSum}
 use Rattle.forms.proofs.terms.SumTerms.{addendWords}
 use Rattle.forms.specs.Positions.{wireAt}
 use Rattle.forms.specs.Shape.{All, Pairwise}
-use Rattle.forms.specs.WordForms.{choiceOf, paired, summed, xorOfTwo}
+use Rattle.forms.specs.WordForms.{choiceOf, paired, subtracted, summed, xorOfTwo}
 use Rattle.forms.specs.declared.form.Addends.{Addends}
+use Rattle.forms.specs.declared.form.Digits.{Digits}
 use Rattle.forms.specs.declared.form.Form.the-variants.{XorOfThree}
 use Rattle.forms.specs.declared.form.Form.{Form}
 use Rattle.forms.specs.declared.position.WordPosition.{WordPosition}
@@ -84,3 +87,7 @@ module _ (m : ℕ) where
   pub sum-apart : (s : Addends) (c r l : ℕ) → ApartSum m (addendWords s) c r → Apart m (summed s c r l)
   unfolding summed
   sum-apart s c r l h = of-cond (Apart m) (ltb l 34) (λ t. omega (arith, h .result, ltb-true l 34 t)) (λ t. h)
+
+  pub difference-apart : (d : Digits) (above : Bool) (bound n r l : ℕ) → ApartDifference m d bound n r → Apart m (subtracted d above bound n r l)
+  unfolding subtracted
+  difference-apart d above bound n r l h = of-cond (Apart m) (ltb l n) (λ t. omega (arith, h .result, ltb-true l n t)) (λ t. h)

@@ -13,9 +13,15 @@ mul-result c = search needs
 add-result : tie.Need-add-result
 add-result c = search needs
 
+appended-rows-requires : tie.Need-appended-rows-requires
+appended-rows-requires c κs = search needs
+
+add-result-2 : tie.Need-add-result-2
+add-result-2 c = search needs
+
 returns : tie.Need-returns
 unfolding rowCount
 returns c = search needs
 
 pub row-count-spec : {M : Type 1} → statement M
-row-count-spec = tie.close (tie.spec block-count-requires mul-result add-result returns)
+row-count-spec = tie.close (tie.spec block-count-requires mul-result add-result appended-rows-requires add-result-2 returns)

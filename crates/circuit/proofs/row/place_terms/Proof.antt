@@ -10,7 +10,7 @@ form-of-requires c κs = search needs
 fill-requires : tie.Need-fill-requires
 fill-requires c κs =
     let form = c .before .form-of .ensures in
-    (search needs, form .1, rw (form .0) (place-few _ _ _ _ _ (c .before .before .before .pre .1)))
+    (search needs, form .1, rw (form .0) (place-few _ (c .before .before .before .pre .0) _ _ _ _ (c .before .before .before .pre .1)))
 
 same-length : tie.Need-same-length
 same-length c = search needs

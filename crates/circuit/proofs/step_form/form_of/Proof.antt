@@ -11,10 +11,10 @@ use Rattle.circuit.proofs.step_form.form_of.Statement.{statement}
 use Rattle.circuit.proofs.step_form.form_of.Tie as tie
 
 block-first-requires : tie.Need-block-first-requires
-block-first-requires c κs = block-below (c .args .bits) (c .args .place) (c .pre)
+block-first-requires c κs = block-below (c .args .circuit) (c .args .place) (c .pre)
 
 message-of-requires : tie.Need-message-of-requires
-message-of-requires c κs = (c .before .pre .0, c .before .pre .1 .0)
+message-of-requires c κs = (c .before .pre .0, c .before .pre .1 .block)
 
 beginning-requires : tie.Need-beginning-requires
 beginning-requires c κs = c .message-of .ensures .1
@@ -137,7 +137,8 @@ enum-told-16 : tie.Need-enum-told-16
 enum-told-16 c = search needs
 
 appended-form-requires : tie.Need-appended-form-requires
-appended-form-requires c κs = search needs
+appended-form-requires c κs =
+    (c .before .before .before .before .before .pre .0, in-step _ _ (c .before .before .before .before .before .pre) (c .enum-told16 .given .1) .1)
 
 returns : tie.Need-returns
 unfolding formOf
@@ -152,7 +153,7 @@ returns-2 c =
     let b = 32 * a .place .index + a .place .line in
     rw (c .before .enum-told2 .given .1)
     (subst
-    (λ (m : MessageSpan). (c .message-form .result ≡ messageForm (a .bits) m (messageBit m i b) (blockFirst i + b)) × Fit (c .message-form .result))
+    (λ (m : MessageSpan). (c .message-form .result ≡ messageForm (a .circuit) m (messageBit m i b) (blockFirst i + b)) × Fit (c .message-form .result))
     (span .message-of .ensures .0)
     (c .message-form .ensures))
 
