@@ -2,6 +2,7 @@ pub mod Axles
 pub mod Circuit
 pub mod Circuits
 pub mod Frame
+pub mod GivenRow
 pub mod Places
 pub mod Ranges
 pub mod WholeBytes

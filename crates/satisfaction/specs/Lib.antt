@@ -1,4 +1,5 @@
 pub mod Agrees
+pub mod Check
 pub mod Failing
 pub mod Lent
 pub mod Lowest

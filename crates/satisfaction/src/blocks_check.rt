@@ -1,4 +1,4 @@
-// All rows of a record, held against an assignment block by block.
+// All rows of a circuit, held against an assignment block by block.
 ghost use mathlib.Core.Bool.{true, false};
 ghost use mathlib.Core.Path.{_≡_};
 ghost use Prim.Native.Nat.{_+_, _*_, _<_, _≤_};
@@ -6,25 +6,27 @@ ghost use lib.ListN.{length};
 ghost use Rattle.assignment.specs.Assignment.{entry};
 ghost use Rattle.block.specs.Steps.{blockRows};
 ghost use Rattle.circuit.specs.Circuit.{rowAt};
+ghost use Rattle.circuit.specs.Circuits.{blockCount};
 ghost use Rattle.circuit.specs.Places.{rowCount, stateRows};
+ghost use Rattle.circuit.specs.Ranges.{Allowed};
 ghost use Rattle.circuit.specs.Wires.{wireCount};
 ghost use Rattle.encoding.specs.Sequence.{tab};
 ghost use Rattle.satisfaction.specs.Failing.{isFailing};
 ghost use Rattle.satisfaction.specs.Lowest.{lowest};
-ghost use Rattle.sm3.specs.Message.{blocks, mostBits};
 ghost use Rattle.sm3.specs.Sm3.{rotatedConstant};
 use crate::agreement::block_wires::block_agrees;
 use crate::rows_check::Verdict;
 use crate::rows_check::lowest_between;
 use block::place::BLOCK_ROWS;
+use circuit::circuits::Circuit;
+use circuit::circuits::block_count;
+use circuit::circuits::message_of;
 use circuit::message::beginning;
-use circuit::message::message_of;
 use circuit::place::STATE_ROWS;
 use circuit::place::row_count;
 use circuit::wire::block_first;
 use refusal::numbers::RowNumber;
 use sm3::constants::rotated_constants;
-use sm3::message::block_count;
 
 // Whether a row is not satisfied.
 fn is_failing(verdict: Verdict) -> bool
@@ -39,50 +41,50 @@ fn is_failing(verdict: Verdict) -> bool
 // The lowest row of block i that is not satisfied, if there is one. The rows of its 512 bits are judged one by one. Where the
 // block's other wires are what these and the words that it begins with give, all its other rows hold; else they are judged one
 // by one too.
-fn lowest_in_block(bits: u64, i: u64, assignment: &[u8], constants: &[u32; 64]) -> Verdict
-    requires { ⌜ (bits ≤ mostBits) × (length (now assignment) ≡ 8 * wireCount bits) × (entry (now assignment) 0 ≡ 1) × (now constants ≡ tab 64 rotatedConstant) × (i < blocks bits) ⌝ }
-    ensures { λ r. ⌜ r ≡ lowest (entry (now (assignment .entry))) (rowAt bits) (stateRows + blockRows * i) blockRows ⌝ }
+fn lowest_in_block(circuit: Circuit, i: u64, assignment: &[u8], constants: &[u32; 64]) -> Verdict
+    requires { ⌜ Allowed circuit × (length (now assignment) ≡ 8 * wireCount circuit) × (entry (now assignment) 0 ≡ 1) × (now constants ≡ tab 64 rotatedConstant) × (i < blockCount circuit) ⌝ }
+    ensures { λ r. ⌜ r ≡ lowest (entry (now (assignment .entry))) (rowAt circuit) (stateRows + blockRows * i) blockRows ⌝ }
 {
     let start = STATE_ROWS + BLOCK_ROWS * i;
     let computed = start + 512;
-    let verdict = lowest_between(bits, RowNumber(start), RowNumber(computed), assignment);
+    let verdict = lowest_between(circuit, RowNumber(start), RowNumber(computed), assignment);
     if is_failing(verdict) {
         return verdict;
     }
     let first = block_first(i);
-    let begin = beginning(message_of(bits, i), i);
+    let begin = beginning(message_of(circuit, i), i);
     if block_agrees(assignment, first, begin, constants) {
         return Verdict::AllSatisfied;
     }
     lowest_between(
-        bits,
+        circuit,
         RowNumber(computed),
         RowNumber(start + BLOCK_ROWS),
         assignment,
     )
 }
 
-// The lowest row of a record of so many bits that is not satisfied, if there is one: the start rows, the blocks, the rows of the
+// The lowest row of a circuit that is not satisfied, if there is one: the start rows, the blocks, the rows of the
 // digest and what is appended.
-pub fn lowest_unsatisfied(bits: u64, assignment: &[u8]) -> Verdict
-    requires { ⌜ (bits ≤ mostBits) × (length (now assignment) ≡ 8 * wireCount bits) × (entry (now assignment) 0 ≡ 1) ⌝ }
-    ensures { λ r. ⌜ r ≡ lowest (entry (now (assignment .entry))) (rowAt bits) 0 (rowCount bits) ⌝ }
+pub fn lowest_unsatisfied(circuit: Circuit, assignment: &[u8]) -> Verdict
+    requires { ⌜ Allowed circuit × (length (now assignment) ≡ 8 * wireCount circuit) × (entry (now assignment) 0 ≡ 1) ⌝ }
+    ensures { λ r. ⌜ r ≡ lowest (entry (now (assignment .entry))) (rowAt circuit) 0 (rowCount circuit) ⌝ }
 {
-    let count = row_count(bits);
-    let start = lowest_between(bits, RowNumber(0), RowNumber(STATE_ROWS), assignment);
+    let count = row_count(circuit);
+    let start = lowest_between(circuit, RowNumber(0), RowNumber(STATE_ROWS), assignment);
     if is_failing(start) {
         return start;
     }
-    let n = block_count(bits);
+    let n = block_count(circuit);
     let constants = rotated_constants();
     for i in 0..n {
-        let verdict = lowest_in_block(bits, i, assignment, &constants);
+        let verdict = lowest_in_block(circuit, i, assignment, &constants);
         if is_failing(verdict) {
             return verdict;
         }
     }
     lowest_between(
-        bits,
+        circuit,
         RowNumber(STATE_ROWS + BLOCK_ROWS * n),
         RowNumber(count),
         assignment,

@@ -1,22 +1,23 @@
-// The rows of a record, held against an assignment.
+// The rows of a circuit, held against an assignment.
 ghost use mathlib.Core.Path.{_≡_};
 ghost use Prim.Native.Nat.{_-_, _*_, _<_, _≤_};
 ghost use lib.ListN.{length};
 ghost use Rattle.assignment.specs.Assignment.{entry};
 ghost use Rattle.circuit.specs.Circuit.{rowAt};
 ghost use Rattle.circuit.specs.Places.{rowCount};
+ghost use Rattle.circuit.specs.Ranges.{Allowed};
 ghost use Rattle.circuit.specs.Wires.{wireCount};
 ghost use Rattle.satisfaction.specs.Lowest.{lowest};
-ghost use Rattle.sm3.specs.Message.{mostBits};
 use crate::sums::part_product;
 use crate::sums::term_value;
+use circuit::circuits::Circuit;
+use circuit::circuits::block_count;
 use circuit::place::next_place;
 use circuit::place::place_of;
 use circuit::row::place_terms;
 use field::sum;
 use forms::terms::TERM_ROOM;
 use refusal::numbers::RowNumber;
-use sm3::message::block_count;
 
 // What rows make of an assignment.
 pub enum Verdict {
@@ -26,20 +27,32 @@ pub enum Verdict {
     Fails(RowNumber),
 }
 
-// The lowest row from `from` on and below `to` that is not satisfied, if there is one, for a record of so many bits: the rows
-// outside, the terms of each row inside, those of A, of B and of C.
-pub fn lowest_between(bits: u64, from: RowNumber, to: RowNumber, assignment: &[u8]) -> Verdict
-    requires { ⌜ (bits ≤ mostBits) × (length (now assignment) ≡ 8 * wireCount bits) × (from .0 < to .0) × (to .0 ≤ rowCount bits) ⌝ }
-    ensures { λ r. ⌜ r ≡ lowest (entry (now (assignment .entry))) (rowAt bits) (from .0) (to .0 - from .0) ⌝ }
+// The lowest row from `from` on and below `to` that is not satisfied, if there is one: the rows outside, the terms of each row
+// inside, those of A, of B and of C.
+pub fn lowest_between(
+    circuit: Circuit,
+    from: RowNumber,
+    to: RowNumber,
+    assignment: &[u8],
+) -> Verdict
+    requires { ⌜ Allowed circuit × (length (now assignment) ≡ 8 * wireCount circuit) × (from .0 < to .0) × (to .0 ≤ rowCount circuit) ⌝ }
+    ensures { λ r. ⌜ r ≡ lowest (entry (now (assignment .entry))) (rowAt circuit) (from .0) (to .0 - from .0) ⌝ }
 {
-    let blocks = block_count(bits);
+    let blocks = block_count(circuit);
     let end = to.0;
     let mut terms = [0u64; TERM_ROOM];
     let mut place = place_of(blocks, from);
     let mut k = from.0;
     'rows: loop {
         let step = place.step;
-        let counts = place_terms(bits, place.block, step, place.index, place.line, &mut terms);
+        let counts = place_terms(
+            circuit,
+            place.block,
+            step,
+            place.index,
+            place.line,
+            &mut terms,
+        );
         let mut a = 0;
         for t in 0..counts.a {
             a = sum(a, term_value(assignment, &terms, t));

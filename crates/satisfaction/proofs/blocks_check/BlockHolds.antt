@@ -13,9 +13,10 @@ use Rattle.block.specs.Steps.{blockRows, computedRows}
 use Rattle.block.specs.Wires.{eightFrom}
 use Rattle.circuit.proofs.exact.Frame.{block-row}
 use Rattle.circuit.specs.Circuit.{begins, beginsAt, formAt, rowAt}
-use Rattle.circuit.specs.Circuits.{messageOf}
+use Rattle.circuit.specs.Circuits.{blockCount, messageOf}
 use Rattle.circuit.specs.Places.{stateRows}
 use Rattle.circuit.specs.Wires.{blockFirst}
+use Rattle.circuit.specs.declared.circuits.Circuit.{Circuit}
 use Rattle.encoding.proofs.Sequence.{beside-then}
 use Rattle.forms.proofs.exact.Runs.{Holds, Judged}
 use Rattle.forms.specs.Rows.{Satisfied, rowOf}
@@ -24,7 +25,6 @@ use Rattle.satisfaction.specs.Agrees.{Computed}
 use Rattle.satisfaction.specs.Lowest.{lowest}
 use Rattle.satisfaction.specs.declared.rows_check.Verdict.the-variants.{AllSatisfied}
 use Rattle.sm3.proofs.Bounds.{Words}
-use Rattle.sm3.specs.Message.{blocks}
 use Rattle.sm3.specs.Sm3.{wordOf}
 use Rattle.sm3.specs.declared.state.State.{State}
 
@@ -56,22 +56,22 @@ module _ (bytes : List ℕ) (one : entry bytes 0 ≡ 1) where
       .1
       (c .wires .entries)
 
-  -- the rows of block i past those of its bits, of a record of n bits
-  rows-hold : (n i : ℕ) → i < blocks n → Computed bytes (blockFirst i) (beginsAt (messageOf n i) i) → (k : ℕ) → k < computedRows
-      → Satisfied (entry bytes) (rowAt n (stateRows + blockRows * i + 512 + k))
+  -- the rows of block i past those of its bits
+  rows-hold : (C : Circuit) (i : ℕ) → i < blockCount C → Computed bytes (blockFirst i) (beginsAt (messageOf C i) i) → (k : ℕ) → k < computedRows
+      → Satisfied (entry bytes) (rowAt C (stateRows + blockRows * i + 512 + k))
   unfolding rowAt begins
-  rows-hold n i l c k h =
+  rows-hold C i l c k h =
       let place : stateRows + blockRows * i + 512 + k ≡ 256 + (blockRows * i + (512 + k)) = omega arith in
-      let form : formAt n (stateRows + blockRows * i + 512 + k) ≡ blockForms (blockFirst i) (begins (messageOf n i) i) k =
-      ap (formAt n) place ∙ block-row n i (512 + k) l (omega arith) ∙ beside-then 512 _ _ k in
-      subst (λ f. Satisfied (entry bytes) (rowOf f)) (sym form) (forms-hold (blockFirst i) (beginsAt (messageOf n i) i) c k h)
+      let form : formAt C (stateRows + blockRows * i + 512 + k) ≡ blockForms (blockFirst i) (begins (messageOf C i) i) k =
+      ap (formAt C) place ∙ block-row C i (512 + k) l (omega arith) ∙ beside-then 512 _ _ k in
+      subst (λ f. Satisfied (entry bytes) (rowOf f)) (sym form) (forms-hold (blockFirst i) (beginsAt (messageOf C i) i) c k h)
 
   -- .. so that none of them fails
-  pub none-fails : (n i : ℕ) → i < blocks n → Computed bytes (blockFirst i) (beginsAt (messageOf n i) i)
-      → lowest (entry bytes) (rowAt n) (stateRows + blockRows * i + 512) computedRows ≡ AllSatisfied
-  none-fails n i l c =
+  pub none-fails : (C : Circuit) (i : ℕ) → i < blockCount C → Computed bytes (blockFirst i) (beginsAt (messageOf C i) i)
+      → lowest (entry bytes) (rowAt C) (stateRows + blockRows * i + 512) computedRows ≡ AllSatisfied
+  none-fails C i l c =
       let k : ℕ = stateRows + blockRows * i + 512 in
-      lowest-all (entry bytes) (rowAt n) k computedRows .1
+      lowest-all (entry bytes) (rowAt C) k computedRows .1
       (λ j h m.
       let row : k + (j - k) ≡ j = omega arith in
-      subst (λ r. Satisfied (entry bytes) (rowAt n r)) row (rows-hold n i l c (j - k) (omega arith)))
+      subst (λ r. Satisfied (entry bytes) (rowAt C r)) row (rows-hold C i l c (j - k) (omega arith)))

@@ -10,8 +10,11 @@ use Rattle.assignment.specs.Assignment.{entry}
 use Rattle.block.specs.declared.place.Place.{Place}
 use Rattle.circuit.proofs.shape.Shape.{letters-within}
 use Rattle.circuit.specs.Circuit.{formAt, formOf, rowAt}
+use Rattle.circuit.specs.Circuits.{blockCount}
 use Rattle.circuit.specs.Places.{placeAt, rowCount}
+use Rattle.circuit.specs.Ranges.{Allowed}
 use Rattle.circuit.specs.Wires.{wireCount}
+use Rattle.circuit.specs.declared.circuits.Circuit.{Circuit}
 use Rattle.encoding.proofs.Written.{length-written}
 use Rattle.field.specs.Field.{p}
 use Rattle.forms.proofs.exact.Values.{value-nonzero, value-normal}
@@ -26,7 +29,6 @@ use Rattle.forms.specs.declared.terms.Counts.{Counts}
 use Rattle.satisfaction.proofs.sums.RunningSum.{Value, judged-row}
 use Rattle.satisfaction.specs.Lent.{Lent}
 use Rattle.satisfaction.specs.Lowest.{lowest}
-use Rattle.sm3.specs.Message.{blocks}
 
 -- the row of a form is satisfied where that of its letters is
 holds-letters : (e : ℕ → ℕ) (f : Form) → holds e (unsorted f) ≡ holds e (rowOf f)
@@ -36,22 +38,22 @@ holds-letters e f =
     let same : (us : List Term) → value e (nonzero us) ≡ value e (normalForm us) = λ us. value-nonzero e us ∙ sym (value-normal e us) in
     ap₂ eqb (ap₂ (λ x y. (x * y) % p) (same (row .A)) (same (row .B))) (ap (λ v. v % p) (same (row .C)))
 
--- Row k of a record of n bits at its place q, whose terms were filled in.
-module _ (n k : ℕ) (q : Place) (at : q ≡ placeAt (blocks n) k) (r : Counts) (before after : List ℕ)
-    (filled : Filled (unsorted (formOf n (q .block) (q .step) (q .index) (q .line))) r before after) where
-  held : Filled (unsorted (formAt n k)) r before after
+-- Row k of a circuit at its place q, whose terms were filled in.
+module _ (C : Circuit) (k : ℕ) (q : Place) (at : q ≡ placeAt (blockCount C) k) (r : Counts) (before after : List ℕ)
+    (filled : Filled (unsorted (formOf C (q .block) (q .step) (q .index) (q .line))) r before after) where
+  held : Filled (unsorted (formAt C k)) r before after
   unfolding formAt
   held =
-      subst (λ (q : Place). Filled (unsorted (formOf n (q .block) (q .step) (q .index) (q .line))) r before after) at filled
+      subst (λ (q : Place). Filled (unsorted (formOf C (q .block) (q .step) (q .index) (q .line))) r before after) at filled
 
   -- no wire is past the last, and every coefficient is a residue
-  pub lent : k < rowCount n → length before ≡ termRoom → (bytes : List ℕ) → length bytes ≡ 8 * wireCount n
+  pub lent : Allowed C → k < rowCount C → length before ≡ termRoom → (bytes : List ℕ) → length bytes ≡ 8 * wireCount C
       → Lent (r .a + r .b + r .c) after bytes
-  lent below room bytes size =
-      let row = unsorted (formAt n k) in
+  lent allowed below room bytes size =
+      let row = unsorted (formAt C k) in
       let fits : 2 * (r .a + r .b + r .c) ≤ length before = omega (arith, held .few) in
       let inside =
-      all-front (λ u. (u .wire .0 < wireCount n) × (u .coefficient < p)) (Rows.terms row) (letters-within n k below) after _
+      all-front (λ u. (u .wire .0 < wireCount C) × (u .coefficient < p)) (Rows.terms row) (letters-within C allowed k below) after _
       (filled-front held fits) in
       let count = filled-length held in
       record {
@@ -63,14 +65,14 @@ module _ (n k : ℕ) (q : Place) (at : q ≡ placeAt (blocks n) k) (r : Counts) 
   -- what the values of its parts tell is told of the row
   pub judged : (bytes : List ℕ) (a b c : ℕ) → 2 * (r .a + r .b + r .c) ≤ length after → Value bytes after 0 (r .a) a
       → Value bytes after (r .a) (r .a + r .b) b → Value bytes after (r .a + r .b) (r .a + r .b + r .c) c
-      → eqb ((a * b) % p) c ≡ holds (entry bytes) (rowAt n k)
+      → eqb ((a * b) % p) c ≡ holds (entry bytes) (rowAt C k)
   unfolding rowAt
   judged bytes a b c room va vb vc =
-      judged-row bytes after before (unsorted (formAt n k)) r held room a b c va vb vc ∙ holds-letters (entry bytes) (formAt n k)
+      judged-row bytes after before (unsorted (formAt C k)) r held room a b c va vb vc ∙ holds-letters (entry bytes) (formAt C k)
 
 -- before a turn at row k, whose place is q: of the rows from `from` on and below `to`, all below row k hold
-pub record Turn (n : ℕ) (bytes : List ℕ) (from to : ℕ) (terms : List ℕ) (q : Place) (k : ℕ) : Type 0 where
+pub record Turn (C : Circuit) (bytes : List ℕ) (from to : ℕ) (terms : List ℕ) (q : Place) (k : ℕ) : Type 0 where
   pub below : k < to
   pub room : length terms ≡ termRoom
-  pub at : q ≡ placeAt (blocks n) k
-  pub lower : lowest (entry bytes) (rowAt n) from (to - from) ≡ lowest (entry bytes) (rowAt n) k (to - k)
+  pub at : q ≡ placeAt (blockCount C) k
+  pub lower : lowest (entry bytes) (rowAt C) from (to - from) ≡ lowest (entry bytes) (rowAt C) k (to - k)

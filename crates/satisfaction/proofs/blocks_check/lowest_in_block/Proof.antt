@@ -4,6 +4,7 @@ use Prim.Native.Nat.{ℕ, _+_, _-_, _*_}
 use native.Mathlib.Omega.{arith}
 use borrow.Author.Needs.{needs}
 use Rattle.block.specs.Steps.{blockRows, computedRows}
+use Rattle.circuit.proofs.place.PlaceRange.{few-blocks}
 use Rattle.circuit.specs.Circuit.{beginsAt}
 use Rattle.circuit.specs.Places.{rowCount, stateRows}
 use Rattle.circuit.specs.Wires.{wireCount}
@@ -12,21 +13,17 @@ use Rattle.satisfaction.proofs.Lowest.{lowest-after, lowest-among}
 use Rattle.satisfaction.proofs.blocks_check.BlockHolds.{none-fails}
 use Rattle.satisfaction.specs.Agrees.{Computed}
 use Rattle.satisfaction.specs.Lowest.{lowest}
-use Rattle.sm3.specs.Message.{blocks}
 use Rattle.satisfaction.proofs.blocks_check.lowest_in_block.Statement.{statement}
 use Rattle.satisfaction.proofs.blocks_check.lowest_in_block.Tie as tie
 
 mul-start : tie.Need-mul-start
-unfolding blocks
-mul-start c = omega arith
+mul-start c = omega (arith, few-blocks (c .before .args .circuit) (c .before .pre .0), c .before .pre .4)
 
 add-start : tie.Need-add-start
-unfolding blocks
-add-start c = omega arith
+add-start c = omega (arith, few-blocks (c .before .args .circuit) (c .before .pre .0), c .before .pre .4)
 
 add-computed : tie.Need-add-computed
-unfolding blocks
-add-computed c = omega arith
+add-computed c = omega (arith, few-blocks (c .before .args .circuit) (c .before .pre .0), c .before .pre .4)
 
 lowest-between-requires : tie.Need-lowest-between-requires
 unfolding rowCount
@@ -50,8 +47,9 @@ returns c =
     (sym (c .before .is-failing .ensures) ∙ c .if1 .taken))
 
 block-first-requires : tie.Need-block-first-requires
-unfolding blocks
-block-first-requires c κs = omega (arith, c .before .before .before .before .pre .0, c .before .before .before .before .pre .4)
+block-first-requires c κs =
+    let start = c .before .before .before .before in
+    omega (arith, few-blocks (start .args .circuit) (start .pre .0), start .pre .4)
 
 message-of-requires : tie.Need-message-of-requires
 message-of-requires c κs = search needs
@@ -87,11 +85,12 @@ returns-2 c =
     ∙ lowest-after _ _ (s + blockRows) s 512 (omega arith) _ (found .lowest-between .ensures ∙ ap (lowest _ _ s) some)
     (sym (placed .before .before .is-failing .ensures) ∙ placed .before .if1 .left)
     ∙ ap (lowest _ _ (s + 512)) rest
-    ∙ none-fails _ (start .pre .2) (a .bits) (a .i) (start .pre .4) computed)
+    ∙ none-fails _ (start .pre .2) (a .circuit) (a .i) (start .pre .4) computed)
 
 add-t10 : tie.Need-add-t10
-unfolding blocks
-add-t10 c = omega (arith, c .before .before .before .before .before .before .before .before .before .pre .0, c .before .before .before .before .before .before .before .before .before .pre .4)
+add-t10 c =
+    let start = c .before .before .before .before .before .before .before .before .before in
+    omega (arith, few-blocks (start .args .circuit) (start .pre .0), start .pre .4)
 
 lowest-between-requires-2 : tie.Need-lowest-between-requires-2
 unfolding rowCount

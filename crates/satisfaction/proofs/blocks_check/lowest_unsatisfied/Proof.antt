@@ -14,12 +14,12 @@ use Rattle.satisfaction.proofs.blocks_check.lowest_unsatisfied.Statemen
 use Rattle.satisfaction.proofs.blocks_check.lowest_unsatisfied.Tie as tie
 
 abbrev Inv-loop : tie.InvT-loop
-Inv-loop bits assignment count n constants i₀ i =
-    (i ≤ n) × (lowest (entry assignment) (rowAt bits) 0 (rowCount bits)
-    ≡ lowest (entry assignment) (rowAt bits) (stateRows + blockRows * i) (rowCount bits - (stateRows + blockRows * i)))
+Inv-loop circuit assignment count n constants i₀ i =
+    (i ≤ n) × (lowest (entry assignment) (rowAt circuit) 0 (rowCount circuit)
+    ≡ lowest (entry assignment) (rowAt circuit) (stateRows + blockRows * i) (rowCount circuit - (stateRows + blockRows * i)))
 
 abbrev μ-loop : tie.MeasureT-loop
-μ-loop bits assignment count n constants i₀ i = n - i
+μ-loop circuit assignment count n constants i₀ i = n - i
 
 row-count-requires : tie.Need-row-count-requires Inv-loop μ-loop
 row-count-requires c κs = search needs

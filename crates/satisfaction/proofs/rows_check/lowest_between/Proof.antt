@@ -18,31 +18,31 @@ use Rattle.satisfaction.proofs.rows_check.lowest_between.Statement.{sta
 use Rattle.satisfaction.proofs.rows_check.lowest_between.Tie as tie
 
 abbrev Inv-loop : tie.InvT-loop
-Inv-loop bits assignment blocks end terms place k counts a₀ t₀ t-end a t =
+Inv-loop circuit assignment blocks end terms place k counts a₀ t₀ t-end a t =
     Summed assignment terms (counts .a + counts .b + counts .c) t₀ t-end t a
 
 abbrev μ-loop : tie.MeasureT-loop
-μ-loop bits assignment blocks end terms place k counts a₀ t₀ t-end a t = t-end - t
+μ-loop circuit assignment blocks end terms place k counts a₀ t₀ t-end a t = t-end - t
 
 abbrev Inv-loop2 : tie.InvT-loop2
-Inv-loop2 bits assignment blocks end terms place k counts a b₀ t₀ t-end b t =
+Inv-loop2 circuit assignment blocks end terms place k counts a b₀ t₀ t-end b t =
     Summed assignment terms (counts .a + counts .b + counts .c) t₀ t-end t b
 
 abbrev μ-loop2 : tie.MeasureT-loop2
-μ-loop2 bits assignment blocks end terms place k counts a b₀ t₀ t-end b t = t-end - t
+μ-loop2 circuit assignment blocks end terms place k counts a b₀ t₀ t-end b t = t-end - t
 
 abbrev Inv-loop3 : tie.InvT-loop3
-Inv-loop3 bits assignment blocks end terms place k a b c₀ t₀ t-end c t =
+Inv-loop3 circuit assignment blocks end terms place k a b c₀ t₀ t-end c t =
     Summed assignment terms t-end t₀ t-end t c
 
 abbrev μ-loop3 : tie.MeasureT-loop3
-μ-loop3 bits assignment blocks end terms place k a b c₀ t₀ t-end c t = t-end - t
+μ-loop3 circuit assignment blocks end terms place k a b c₀ t₀ t-end c t = t-end - t
 
 abbrev Inv-rows : tie.InvT-rows
-Inv-rows bits assignment blocks end terms₀ place₀ k₀ terms place k = Turn bits assignment k₀ end terms place k
+Inv-rows circuit assignment blocks end terms₀ place₀ k₀ terms place k = Turn circuit assignment k₀ end terms place k
 
 abbrev μ-rows : tie.MeasureT-rows
-μ-rows bits assignment blocks end terms₀ place₀ k₀ terms place k = end - k
+μ-rows circuit assignment blocks end terms₀ place₀ k₀ terms place k = end - k
 
 block-count-requires :
     tie.Need-block-count-requires
@@ -108,7 +108,7 @@ loop-holds c =
     let turn = filled .before .before in
     let inv = turn .rows .inv in
     let start = turn .before .before .before .before in
-    let inside = lent _ _ _ (inv .at) _ _ _ (filled .place-terms .ensures) (omega (arith, inv .below, start .pre .3)) (inv .room) _ (start .pre .1) in
+    let inside = lent _ _ _ (inv .at) _ _ _ (filled .place-terms .ensures) (start .pre .0) (omega (arith, inv .below, start .pre .3)) (inv .room) _ (start .pre .1) in
     summed-none _ _ _ _ _ inside (omega arith) (omega arith)
 
 slice-aggregate-term-value :
@@ -277,7 +277,7 @@ add-if2 : tie.Need-add-if2 Inv-loop μ-loop Inv-loop2 μ-loop2 Inv-loop3 μ-loop
 add-if2 c =
     let turn = c .before .before .before .before .before .before .before .before .before .before .before .before .before .before .before in
     let start = turn .before .before .before .before in
-    omega (arith, turn .rows .inv .below, start .pre .3, most-rows _ (start .pre .0))
+    omega (arith, turn .rows .inv .below, start .pre .3, most-rows (start .args .circuit) (start .pre .0))
 
 next-place-requires :
     tie.Need-next-place-requires
@@ -293,7 +293,7 @@ next-place-requires c κs =
     let turn = c .before .before .before .before .before .before .before .before .before .before .before .before .before .before .before .before in
     let blocks = turn .before .before .block-count .ensures in
     let start = turn .before .before .before .before in
-    let rows = most-rows _ (start .pre .0) in (
+    let rows = most-rows (start .args .circuit) (start .pre .0) in (
       omega (arith, blocks .1),
       omega (arith, blocks .2),
       omega (arith, turn .rows .inv .below, start .pre .3, rows),
@@ -304,7 +304,7 @@ add-k : tie.Need-add-k Inv-loop μ-loop Inv-loop2 μ-loop2 Inv-loop3 μ-loop3 In
 add-k c =
     let turn = c .before .before .before .before .before .before .before .before .before .before .before .before .before .before .before .before .before in
     let start = turn .before .before .before .before in
-    omega (arith, turn .rows .inv .below, start .pre .3, most-rows _ (start .pre .0))
+    omega (arith, turn .rows .inv .below, start .pre .3, most-rows (start .args .circuit) (start .pre .0))
 
 rows-less : tie.Need-rows-less Inv-loop μ-loop Inv-loop2 μ-loop2 Inv-loop3 μ-loop3 Inv-rows μ-rows
 rows-less c = omega (arith, c .before .before .before .before .before .before .before .before .before .before .before .before .before .before .before .before .before .rows .inv .below)

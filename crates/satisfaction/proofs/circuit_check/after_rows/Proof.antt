@@ -1,9 +1,9 @@
 -- Each arm is told which verdict it is at.
 use mathlib.Core.Path.{ap, sym}
 use borrow.Author.Needs.{needs}
-use Rattle.record.specs.Check.{afterRows}
-use Rattle.record.proofs.check.after_rows.Statement.{statement}
-use Rattle.record.proofs.check.after_rows.Tie as tie
+use Rattle.satisfaction.specs.Check.{afterRows}
+use Rattle.satisfaction.proofs.circuit_check.after_rows.Statement.{statement}
+use Rattle.satisfaction.proofs.circuit_check.after_rows.Tie as tie
 
 enum-told : tie.Need-enum-told
 enum-told c = search needs

@@ -1,12 +1,15 @@
--- The answer of `row` by its cases, test by test, and what a row that is given leaves in the buffer.
+-- The answer by its cases, test by test, and what a row that is given leaves in the buffer.
 use mathlib.Core.List.{List, _++_}
 use mathlib.Core.Path.{_≡_, sym}
 use Prim.Native.Nat.{ℕ, _+_, _*_, _<_, _≤_}
 use native.Mathlib.Omega.{arith}
 use borrow.Author.Tests.{le-leb, le-ltb, lt-leb, lt-ltb}
 use lib.ListN.{drop, length}
 use Rattle.circuit.specs.Circuit.{rowAt}
+use Rattle.circuit.specs.GivenRow.{counted, givenRow, rowBytes}
 use Rattle.circuit.specs.Places.{rowCount}
+use Rattle.circuit.specs.declared.circuits.Circuit.{Circuit}
+use Rattle.circuit.specs.declared.given_row.RowAnswer.the-variants.{Given, Refused}
 use Rattle.encoding.proofs.Written.{written-front}
 use Rattle.encoding.specs.Written.{Written}
 use Rattle.forms.proofs.term_bytes.TermBytes.{length-terms}
@@ -16,27 +19,20 @@ use Rattle.forms.specs.TermBytes.{termsBytes}
 use Rattle.forms.specs.Terms.{Filled, flat, termRoom}
 use Rattle.forms.specs.declared.form.Term.{Term}
 use Rattle.forms.specs.declared.terms.Counts.{Counts}
-use Rattle.record.specs.RowAnswer.{counted, rowAnswer, rowBytes}
-use Rattle.record.specs.declared.row.RowAnswer.the-variants.{Given, Refused}
-use Rattle.refusal.specs.declared.outcome.Refusal.the-variants.{BufferTooShort, LengthAboveLimit, RowOutOfRange}
-use Rattle.sm3.specs.Message.{mostBits}
+use Rattle.refusal.specs.declared.outcome.Refusal.the-variants.{BufferTooShort, RowOutOfRange}
 
-module _ (n k room : ℕ) where
-  pub length-above : mostBits < n → Refused LengthAboveLimit ≡ rowAnswer n k room
-  unfolding rowAnswer
-  length-above h = sym (rw (lt-ltb mostBits n h))
+module _ (C : Circuit) (k room : ℕ) where
+  pub row-outside : rowCount C ≤ k → Refused RowOutOfRange ≡ givenRow C k room
+  unfolding givenRow
+  row-outside h = sym (rw (le-leb (rowCount C) k h))
 
-  pub row-outside : n ≤ mostBits → rowCount n ≤ k → Refused RowOutOfRange ≡ rowAnswer n k room
-  unfolding rowAnswer
-  row-outside h i = sym (rw (le-ltb mostBits n h, le-leb (rowCount n) k i))
+  pub room-short : k < rowCount C → room < rowBytes → Refused BufferTooShort ≡ givenRow C k room
+  unfolding givenRow
+  room-short h i = sym (rw (lt-leb (rowCount C) k h, lt-ltb room rowBytes i))
 
-  pub room-short : n ≤ mostBits → k < rowCount n → room < rowBytes → Refused BufferTooShort ≡ rowAnswer n k room
-  unfolding rowAnswer
-  room-short h i j = sym (rw (le-ltb mostBits n h, lt-leb (rowCount n) k i, lt-ltb room rowBytes j))
-
-  pub row-given : n ≤ mostBits → k < rowCount n → rowBytes ≤ room → counted (rowAt n k) ≡ rowAnswer n k room
-  unfolding rowAnswer
-  row-given h i j = sym (rw (le-ltb mostBits n h, lt-leb (rowCount n) k i, le-ltb room rowBytes j))
+  pub row-given : k < rowCount C → rowBytes ≤ room → counted (rowAt C k) ≡ givenRow C k room
+  unfolding givenRow
+  row-given h i = sym (rw (lt-leb (rowCount C) k h, le-ltb room rowBytes i))
 
 module _ {r : Row} {n : Counts} {l m : List ℕ} (h : Filled r n l m) where
   pub filled-counted : Given (n .a) (n .b) (n .c) ≡ counted r

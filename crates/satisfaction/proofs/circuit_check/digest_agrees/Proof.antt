@@ -6,10 +6,10 @@ use borrow.Author.Count.{below-more, below-none}
 use borrow.Author.Needs.{needs}
 use Rattle.assignment.specs.Assignment.{entry}
 use Rattle.encoding.specs.Bits.{bitOfBytes}
-use Rattle.record.proofs.Acceptance.{same-iff}
-use Rattle.record.proofs.check.Refusals.{differs}
-use Rattle.record.proofs.check.digest_agrees.Statement.{statement}
-use Rattle.record.proofs.check.digest_agrees.Tie as tie
+use Rattle.satisfaction.proofs.Acceptance.{same-iff}
+use Rattle.satisfaction.proofs.circuit_check.Refusals.{differs}
+use Rattle.satisfaction.proofs.circuit_check.digest_agrees.Statement.{statement}
+use Rattle.satisfaction.proofs.circuit_check.digest_agrees.Tie as tie
 
 abbrev Inv-loop : tie.InvT-loop
 Inv-loop digest assignment k₀ k = (k ≤ 256) × ((i : ℕ) → i < k → entry assignment (1 + i) ≡ bitOfBytes digest i)
