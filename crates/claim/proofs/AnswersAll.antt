@@ -9,6 +9,7 @@ use native.Mathlib.Omega.{arith}
 use lib.ListN.{length, length-drop, take}
 use lib.Seq.{length-take-le, take-all}
 use Rattle.circuit.specs.Wires.{wireCount}
+use Rattle.circuit.specs.declared.circuits.Circuit.the-variants.{Record}
 use Rattle.claim.proofs.LineFront.{digest-front, parse-front}
 use Rattle.claim.proofs.LineRight.{claimed}
 use Rattle.claim.specs.Answer.{AnswersAll, answerTo, inputRoom}
@@ -25,7 +26,7 @@ use Rattle.text.proofs.AfterField.{length-field}
 use Rattle.text.specs.Text.{comma}
 
 -- the packed bytes of the longest records
-most-packed : (n : ℕ) → n ≤ mostBits → packedLength (wireCount n) ≤ 45121
+most-packed : (n : ℕ) → n ≤ mostBits → packedLength (wireCount (Record n)) ≤ 45121
 unfolding wireCount blocks
 most-packed n range = omega arith
 

@@ -7,6 +7,7 @@ ghost use Rattle.packing.specs.PackedCheck.{packedCheckAnswer};
 ghost use Rattle.text.specs.Put.{Put};
 use crate::line::Parsed;
 use crate::line::parse;
+use circuit::circuits::Circuit;
 use circuit::wire::wire_count;
 use packing::unpack::unpack;
 use record::check::check;
@@ -33,7 +34,7 @@ fn check_packed(bits: u64, digest: &[u8], packed: &[u8], room: &mut [u8]) -> Out
     if let Outcome::Refused(refusal) = answer {
         return Outcome::Refused(refusal);
     }
-    let end = (8 * wire_count(bits)) as usize;
+    let end = (8 * wire_count(Circuit::Record { bits })) as usize;
     check(bits, digest, &room[..end])
 }
 

@@ -3,11 +3,13 @@
 use mathlib.Core.List.{List, [], _∷_}
 use Prim.Native.Nat.{ℕ, _-_, _*_, _^_}
 use Rattle.assignment.specs.Assignment.{entry}
+use Rattle.circuit.specs.declared.circuits.Circuit.the-variants.{Record}
 use Rattle.record.specs.Check.{checkAnswer}
 use Rattle.record.specs.Produce.{produceAnswer}
 use Rattle.circuit.specs.Wires.{wireCount}
 use Rattle.circuit.specs.Places.{rowCount}
-use Rattle.record.specs.RowAnswer.{rowAnswer, rowBytes, rowNumber}
+use Rattle.circuit.specs.GivenRow.{rowBytes, rowNumber}
+use Rattle.record.specs.RowAnswer.{rowAnswer}
 use Rattle.encoding.specs.Bytes.{leastFirst}
 use Rattle.encoding.specs.Packed.{packedLength}
 use Rattle.field.specs.Field.{p}
@@ -44,7 +46,7 @@ table =
     -- line
     ∷ (outcomeNumber (digestAnswer 8128 (leastFirst 1016 0) 32) is 2)
     ∷ (rowNumber (rowAnswer 8128 0 rowBytes) is 2)
-    ∷ (outcomeNumber (produceAnswer 8128 (leastFirst 1016 0) (8 * wireCount 8128)) is 2)
+    ∷ (outcomeNumber (produceAnswer 8128 (leastFirst 1016 0) (8 * wireCount (Record 8128))) is 2)
     ∷ (outcomeNumber (checkAnswer 8128 (leastFirst 32 0) []) is 2)
     ∷ (requestNumber (requestOf (ascii "8128,0,0\n")) is 2)
     -- "13, the record's bytes are not the bits over 8 rounded up"; "14, a bit after the last record bit is set": 37 bits have 5
@@ -55,12 +57,12 @@ table =
     ∷ (outcomeNumber (digestAnswer 37 (leastFirst 5 (8 * 2 ^ 32)) 0) is 4)
     ∷ (outcomeNumber (digestAnswer 37 (leastFirst 5 (8 * 2 ^ 32)) 32) is 0)
     -- "L 0 has 23,041 wires and 32,832 rows; L 1,015 has 360,961 and 517,632"
-    ∷ (wireCount 0 is 23041)
-    ∷ (rowCount 0 is 32832)
-    ∷ (wireCount 8120 is 360961)
-    ∷ (rowCount 8120 is 517632)
-    ∷ (wireCount 8127 is 360961)
-    ∷ (rowCount 8127 is 517632)
+    ∷ (wireCount (Record 0) is 23041)
+    ∷ (rowCount (Record 0) is 32832)
+    ∷ (wireCount (Record 8120) is 360961)
+    ∷ (rowCount (Record 8120) is 517632)
+    ∷ (wireCount (Record 8127) is 360961)
+    ∷ (rowCount (Record 8127) is 517632)
     -- "2^60 × 2 reads as 1; entry p reads as 0; entry 2^64 - 1 reads as 7"
     ∷ (entry (leastFirst 8 (2 ^ 60 * 2)) 0 is 1)
     ∷ (entry (leastFirst 8 p) 0 is 0)

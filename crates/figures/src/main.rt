@@ -15,14 +15,14 @@
 // on wire 0 in B; at 1 bit row 257 fixes wire 514 to 1; row 32,576 at 0 bits has wires 1 (1) and 22,785 (p - 1) in A; row 32,832
 // at 0 bits is refusal 3.
 ghost use Prim.Native.Nat.{_+_, _≤_};
-ghost use Rattle.record.specs.RowAnswer.{rowBytes};
+ghost use Rattle.circuit.specs.GivenRow.{rowBytes};
 ghost use Rattle.sm3.specs.Message.{mostBits};
+use circuit::given_row::RowAnswer;
 use encoding::packed::packed_length;
 use encoding::read::eight_bytes;
 use encoding::read::four_bytes;
 use libc::STDOUT_FILENO;
 use record::row::ROW_BYTES;
-use record::row::RowAnswer;
 use record::row::row;
 use refusal::numbers::RowNumber;
 use refusal::outcome::number_of;

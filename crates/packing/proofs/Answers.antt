@@ -15,6 +15,7 @@ use lib.Seq.{take-at}
 use Rattle.assignment.proofs.Entries.{length-entries}
 use Rattle.assignment.specs.Assignment.{entry}
 use Rattle.circuit.specs.Wires.{wireCount}
+use Rattle.circuit.specs.declared.circuits.Circuit.the-variants.{Record}
 use Rattle.encoding.proofs.PackedBits.{length-packed}
 use Rattle.encoding.specs.Packed.{packedBytes, packedLength, spareBits}
 use Rattle.packing.proofs.pack.EntriesAsked.{bits-done, done-bits}
@@ -49,7 +50,7 @@ asked-first wires p =
 -- For records of n bits.
 module _ (n : ℕ) where
   abbrev wires : ℕ
-  wires = wireCount n
+  wires = wireCount (Record n)
 
   pub pack-done : (a : List ℕ) (room : ℕ)
       → (packAnswer n a room ≡ Done)

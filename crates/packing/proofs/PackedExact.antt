@@ -7,6 +7,7 @@ use Prim.Native.Nat.{ℕ, _<_, _≤_}
 use lib.ListN.{length}
 use Rattle.assignment.proofs.Entries.{entries-bytes}
 use Rattle.circuit.specs.Wires.{wireCount}
+use Rattle.circuit.specs.declared.circuits.Circuit.the-variants.{Record}
 use Rattle.encoding.proofs.Bits.{bit-of-bytes-lt}
 use Rattle.encoding.proofs.PackedBits.{length-packed, packed-bit, packed-known, spare-of-packed}
 use Rattle.encoding.specs.Bits.{bitOfBytes}
@@ -33,12 +34,12 @@ unpacked-bytes wires p = entries-bytes wires (bitOfBytes p)
 abbrev wiresOf : ℕ → List ℕ → ℕ → ℕ
 wiresOf n r = wireOf n (bitOfBytes r)
 
-wires-bits : (n : ℕ) (r : List ℕ) (w : ℕ) → w < wireCount n → wiresOf n r w < 2
+wires-bits : (n : ℕ) (r : List ℕ) (w : ℕ) → w < wireCount (Record n) → wiresOf n r w < 2
 wires-bits n r w l = wire-lt n (bitOfBytes r) (λ k h. bit-of-bytes-lt r k) w
 
 module _ (n : ℕ) (d p : List ℕ) (range : n ≤ mostBits) (digest : length d ≡ 32) (digest-bytes : Bytes d) (bytes : Bytes p) where
   abbrev wires : ℕ
-  wires = wireCount n
+  wires = wireCount (Record n)
 
   abbrev u : List ℕ
   u = unpackedBytes wires p

@@ -11,6 +11,7 @@ use Rattle.assignment.proofs.Entries.{entries-same, entry-written, length-entri
 use Rattle.assignment.proofs.Writes.{entries-congruent}
 use Rattle.assignment.specs.Assignment.{entry, entryBytes}
 use Rattle.circuit.specs.Wires.{wireCount}
+use Rattle.circuit.specs.declared.circuits.Circuit.the-variants.{Record}
 use Rattle.encoding.proofs.Bits.{bit-of-bytes-lt}
 use Rattle.encoding.proofs.PackedBits.{length-packed, packed-bit, packed-known, spare-of-packed}
 use Rattle.encoding.specs.Bits.{bitOfBytes}
@@ -22,10 +23,11 @@ use Rattle.packing.specs.Pack.{packAnswer}
 use Rattle.packing.specs.Packed.{unpackedBytes}
 use Rattle.packing.specs.RoundTrip.{RoundTrip, packs, unpacks}
 use Rattle.packing.specs.Unpack.{unpackAnswer}
-use Rattle.record.proofs.Acceptance.{accepted-iff}
+use Rattle.record.proofs.Accepted.{accepted-iff}
 use Rattle.record.proofs.Demand3.{accepted-wires}
 use Rattle.record.proofs.exact.WireBits.{wire-lt}
 use Rattle.record.specs.Check.{checkAnswer}
+use Rattle.satisfaction.specs.Check.{circuitCheck}
 use Rattle.record.specs.Demand3.{IsAccepted}
 use Rattle.refusal.specs.declared.outcome.Outcome.the-variants.{Done}
 
@@ -52,23 +54,23 @@ unpacked-packed wires s bits = entries-congruent wires _ s (packed-bit wires s b
 
 -- the check of entries that are written modulo p
 check-same : (n : ℕ) (d a b : List ℕ) → length a ≡ length b → entry a ≡ entry b → checkAnswer n d a ≡ checkAnswer n d b
-unfolding checkAnswer
+unfolding checkAnswer circuitCheck
 check-same n d a b long same = rw (long, same)
 
-check-entries : (n : ℕ) (d a : List ℕ) → length a ≡ 8 * wireCount n → ((w : ℕ) → w < wireCount n → entry a w < 2)
-    → checkAnswer n d (entryBytes (wireCount n) (entry a)) ≡ checkAnswer n d a
+check-entries : (n : ℕ) (d a : List ℕ) → length a ≡ 8 * wireCount (Record n) → ((w : ℕ) → w < wireCount (Record n) → entry a w < 2)
+    → checkAnswer n d (entryBytes (wireCount (Record n)) (entry a)) ≡ checkAnswer n d a
 check-entries n d a long bits =
-    let wires : ℕ = wireCount n in
+    let wires : ℕ = wireCount (Record n) in
     check-same n d (entryBytes wires (entry a)) a (length-entries wires (entry a) ∙ sym long)
     (entries-same wires (entryBytes wires (entry a)) a (length-entries wires (entry a)) long
     (λ w l. entry-of-bytes wires (entry a) w l (omega (arith, bits w l))))
 
 module _ (n : ℕ) (a out : List ℕ) (done : packAnswer n a (length out) ≡ Done) where
-  unpack-of-packed : (room : List ℕ) → 8 * wireCount n ≤ length room
+  unpack-of-packed : (room : List ℕ) → 8 * wireCount (Record n) ≤ length room
       → (unpackAnswer n (packs n a out) (length room) ≡ Done)
-      × (unpacks n (packs n a out) room ≡ entryBytes (wireCount n) (entry a))
+      × (unpacks n (packs n a out) room ≡ entryBytes (wireCount (Record n)) (entry a))
   unpack-of-packed room fits =
-      let wires : ℕ = wireCount n in
+      let wires : ℕ = wireCount (Record n) in
       let asked = pack-done n a (length out) .0 done in
       let bits = asked .1 .1 .1 in
       let whole : unpackAnswer n (packedBytes wires (entry a)) (length room) ≡ Done =
@@ -80,10 +82,10 @@ module _ (n : ℕ) (a out : List ℕ) (done : packAnswer n a (length out) ≡ Do
       (whole, unpacks-done n (packedBytes wires (entry a)) room whole ∙ unpacked-packed wires (entry a) bits)
 
 module _ (n : ℕ) (q out : List ℕ) (bytes : Bytes q) (done : unpackAnswer n q (length out) ≡ Done) where
-  pack-of-unpacked : (room : List ℕ) → packedLength (wireCount n) ≤ length room
+  pack-of-unpacked : (room : List ℕ) → packedLength (wireCount (Record n)) ≤ length room
       → (packAnswer n (unpacks n q out) (length room) ≡ Done) × (packs n (unpacks n q out) room ≡ q)
   pack-of-unpacked room fits =
-      let wires : ℕ = wireCount n in
+      let wires : ℕ = wireCount (Record n) in
       let u = unpackedBytes wires q in
       let asked = unpack-done n q (length out) .0 done in
       let bits : (w : ℕ) → w < wires → entry u w < 2 =
@@ -97,12 +99,13 @@ module _ (n : ℕ) (q out : List ℕ) (bytes : Bytes q) (done : unpackAnswer n q
             (λ w l. sym (entry-of-unpacked wires q w l)),
       )
 
-accepted-packs : (n : ℕ) (d a : List ℕ) (room : ℕ) → IsAccepted n d a → packedLength (wireCount n) ≤ room
+accepted-packs : (n : ℕ) (d a : List ℕ) (room : ℕ) → IsAccepted n d a → packedLength (wireCount (Record n)) ≤ room
     → packAnswer n a room ≡ Done
 accepted-packs n d a room accepted fits =
-    let passed = accepted-iff n d a .0 accepted .passed in
+    let accepts = accepted-iff n d a .0 accepted in
+    let passed = accepts .1 .passed in
     pack-done n a room .1 (
-      passed .range,
+      accepts .0,
       (
         fits,
         (

@@ -6,6 +6,7 @@ use Prim.Native.Nat.{ℕ, _+_, _-_, _*_, _/_, _%_, _<_, _≤_}
 use native.Mathlib.Nat.{sub-zero, zero-add}
 use native.Mathlib.Omega.{arith}
 use Rattle.circuit.specs.Wires.{wireCount}
+use Rattle.circuit.specs.declared.circuits.Circuit.the-variants.{Record}
 use Rattle.encoding.proofs.Bits.{number-split, number-zero}
 use Rattle.encoding.proofs.ByteBits.{bytes-of-bits-add, bytes-of-bits-congruent}
 use Rattle.encoding.proofs.Sequence.{beside-first, beside-then}
@@ -16,7 +17,7 @@ use Rattle.encoding.specs.Packed.{packedBytes, packedLength}
 use Rattle.encoding.specs.Sequence.{beside, tab}
 
 -- the wires of a record are pairs of words and one wire more
-pub one-over : (n : ℕ) → wireCount n % 64 ≡ 1
+pub one-over : (n : ℕ) → wireCount (Record n) % 64 ≡ 1
 unfolding wireCount
 one-over n = omega arith
 

@@ -6,6 +6,7 @@ use lib.Dec.{eqb, ltb}
 use lib.ListN.{drop, length}
 use Rattle.assignment.specs.Assignment.{entry}
 use Rattle.circuit.specs.Wires.{wireCount}
+use Rattle.circuit.specs.declared.circuits.Circuit.the-variants.{Record}
 use Rattle.encoding.specs.Lowest.{lowestFailing}
 use Rattle.encoding.specs.Packed.{packedBytes, packedLength}
 use Rattle.refusal.specs.Refusals.{left}
@@ -25,12 +26,12 @@ packAnswer n assignment room =
     -- "2. The record length is above" 8,127
     cond (ltb mostBits n) (Refused LengthAboveLimit)
     -- "From here refusal 4 also covers any other written buffer shorter than its result."
-    (cond (ltb room (packedLength (wireCount n))) (Refused BufferTooShort)
+    (cond (ltb room (packedLength (wireCount (Record n)))) (Refused BufferTooShort)
     -- "6. An assignment of 8-byte entries handed over to be read is not exactly 8 × wires bytes."
-    (cond (not (eqb (length assignment) (8 * wireCount n))) (Refused WrongLength)
-    (bitsAnswer assignment 0 (wireCount n))))
+    (cond (not (eqb (length assignment) (8 * wireCount (Record n)))) (Refused WrongLength)
+    (bitsAnswer assignment 0 (wireCount (Record n)))))
 
 -- what is left in the buffer: the packed bytes and the bytes past them, which "keep their value"
 abbrev pub packLeft : Outcome → ℕ → List ℕ → List ℕ → List ℕ
 packLeft r n assignment out =
-    left r (packedBytes (wireCount n) (entry assignment) ++ drop (packedLength (wireCount n)) out) out
+    left r (packedBytes (wireCount (Record n)) (entry assignment) ++ drop (packedLength (wireCount (Record n))) out) out

@@ -7,6 +7,7 @@ use Prim.Native.Nat.{ℕ, _≤_}
 use lib.Dec.{ltb}
 use lib.ListN.{length}
 use Rattle.circuit.specs.Wires.{wireCount}
+use Rattle.circuit.specs.declared.circuits.Circuit.the-variants.{Record}
 use Rattle.encoding.specs.Bits.{bitOfBytes}
 use Rattle.encoding.specs.Bytes.{Bytes}
 use Rattle.encoding.specs.Packed.{packedBytes}
@@ -25,7 +26,7 @@ unfoldable pub packedCheckAnswer : ℕ → List ℕ → List ℕ → Outcome
 packedCheckAnswer n digest packed =
     -- "2. The record length is above" 8,127
     cond (ltb mostBits n) (Refused LengthAboveLimit)
-    (packedAnswer (wireCount n) packed (checkAnswer n digest (unpackedBytes (wireCount n) packed)))
+    (packedAnswer (wireCount (Record n)) packed (checkAnswer n digest (unpackedBytes (wireCount (Record n)) packed)))
 
 -- demand 3 of packed bytes: they are accepted exactly when they are the packed wires of some record that has this digest
 abbrev pub PackedExact : Type 0
@@ -33,4 +34,4 @@ PackedExact =
     (n : ℕ) (d p : List ℕ) → n ≤ mostBits → length d ≡ 32 → Bytes d → Bytes p
     → (packedCheckAnswer n d p ≡ Done)
     ↔ ((r : List ℕ) × IsRecord n r × (digestBytes n r ≡ d)
-    × (p ≡ packedBytes (wireCount n) (wireOf n (bitOfBytes r))))
+    × (p ≡ packedBytes (wireCount (Record n)) (wireOf n (bitOfBytes r))))

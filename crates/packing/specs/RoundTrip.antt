@@ -6,6 +6,7 @@ use Prim.Native.Nat.{ℕ, _*_, _≤_}
 use lib.ListN.{length, take}
 use Rattle.assignment.specs.Assignment.{entry, entryBytes}
 use Rattle.circuit.specs.Wires.{wireCount}
+use Rattle.circuit.specs.declared.circuits.Circuit.the-variants.{Record}
 use Rattle.encoding.specs.Bytes.{Bytes}
 use Rattle.encoding.specs.Packed.{packedLength}
 use Rattle.packing.specs.Pack.{packAnswer, packLeft}
@@ -16,23 +17,23 @@ use Rattle.refusal.specs.declared.outcome.Outcome.the-variants.{Done}
 
 -- what `pack` leaves at the front of a buffer that held `out`, and what `unpack` leaves there
 abbrev pub packs : ℕ → List ℕ → List ℕ → List ℕ
-packs n a out = take (packedLength (wireCount n)) (packLeft (packAnswer n a (length out)) n a out)
+packs n a out = take (packedLength (wireCount (Record n))) (packLeft (packAnswer n a (length out)) n a out)
 
 abbrev pub unpacks : ℕ → List ℕ → List ℕ → List ℕ
-unpacks n p out = take (8 * wireCount n) (unpackLeft (unpackAnswer n p (length out)) n p out)
+unpacks n p out = take (8 * wireCount (Record n)) (unpackLeft (unpackAnswer n p (length out)) n p out)
 
 pub record RoundTrip : Type 0 where
   -- "Unpacking what was packed returns each entry modulo p"
-  pub unpacked : (n : ℕ) (a out room : List ℕ) → packAnswer n a (length out) ≡ Done → 8 * wireCount n ≤ length room
+  pub unpacked : (n : ℕ) (a out room : List ℕ) → packAnswer n a (length out) ≡ Done → 8 * wireCount (Record n) ≤ length room
       → (unpackAnswer n (packs n a out) (length room) ≡ Done)
-      × (unpacks n (packs n a out) room ≡ entryBytes (wireCount n) (entry a))
+      × (unpacks n (packs n a out) room ≡ entryBytes (wireCount (Record n)) (entry a))
   -- "packing what was unpacked returns the bytes"
   pub packed : (n : ℕ) (p out room : List ℕ) → Bytes p → unpackAnswer n p (length out) ≡ Done
-      → packedLength (wireCount n) ≤ length room
+      → packedLength (wireCount (Record n)) ≤ length room
       → (packAnswer n (unpacks n p out) (length room) ≡ Done) × (packs n (unpacks n p out) room ≡ p)
   -- "Every accepted assignment packs."
-  pub accepted : (n : ℕ) (d a : List ℕ) (room : ℕ) → IsAccepted n d a → packedLength (wireCount n) ≤ room
+  pub accepted : (n : ℕ) (d a : List ℕ) (room : ℕ) → IsAccepted n d a → packedLength (wireCount (Record n)) ≤ room
       → packAnswer n a room ≡ Done
   -- the check of what was packed and unpacked is the check of its entries
-  pub checked : (n : ℕ) (d a out room : List ℕ) → packAnswer n a (length out) ≡ Done → 8 * wireCount n ≤ length room
+  pub checked : (n : ℕ) (d a out room : List ℕ) → packAnswer n a (length out) ≡ Done → 8 * wireCount (Record n) ≤ length room
       → checkAnswer n d (unpacks n (packs n a out) room) ≡ checkAnswer n d a

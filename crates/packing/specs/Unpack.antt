@@ -5,6 +5,7 @@ use Prim.Native.Nat.{ℕ, _*_}
 use lib.Dec.{eqb, ltb}
 use lib.ListN.{drop, length}
 use Rattle.circuit.specs.Wires.{wireCount}
+use Rattle.circuit.specs.declared.circuits.Circuit.the-variants.{Record}
 use Rattle.encoding.specs.Packed.{packedLength, spareBits}
 use Rattle.packing.specs.Packed.{unpackedBytes}
 use Rattle.refusal.specs.Refusals.{left}
@@ -27,10 +28,10 @@ unpackAnswer n packed room =
     -- "2. The record length is above" 8,127
     cond (ltb mostBits n) (Refused LengthAboveLimit)
     -- "4. The buffer to be written is shorter than .. 8 × wires for an assignment."
-    (cond (ltb room (8 * wireCount n)) (Refused BufferTooShort)
-    (packedAnswer (wireCount n) packed Done))
+    (cond (ltb room (8 * wireCount (Record n))) (Refused BufferTooShort)
+    (packedAnswer (wireCount (Record n)) packed Done))
 
 -- what is left in the buffer: the entries and the bytes past them, which "keep their value"
 abbrev pub unpackLeft : Outcome → ℕ → List ℕ → List ℕ → List ℕ
 unpackLeft r n packed out =
-    left r (unpackedBytes (wireCount n) packed ++ drop (8 * wireCount n) out) out
+    left r (unpackedBytes (wireCount (Record n)) packed ++ drop (8 * wireCount (Record n)) out) out

@@ -10,6 +10,7 @@ ghost use Rattle.encoding.specs.Written.{Written};
 ghost use Rattle.packing.specs.Pack.{bitsAnswer, packAnswer, packLeft};
 ghost use Rattle.satisfaction.specs.Agrees.{Stand};
 use assignment::entry::read;
+use circuit::circuits::Circuit;
 use circuit::wire::wire_count;
 use encoding::packed::packed_length;
 use encoding::write::put_word;
@@ -108,7 +109,7 @@ pub fn pack(bits: u64, assignment: &[u8], out: &mut [u8]) -> Outcome
     if MOST_BITS < bits {
         return Outcome::Refused(Refusal::LengthAboveLimit);
     }
-    let wires = wire_count(bits);
+    let wires = wire_count(Circuit::Record { bits });
     let room = packed_length(wires);
     let bytes = 8 * wires;
     if (out.len() as u64) < room {

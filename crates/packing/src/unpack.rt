@@ -7,6 +7,7 @@ ghost use Rattle.encoding.specs.Bits.{bitOfBytes};
 ghost use Rattle.packing.specs.Unpack.{unpackAnswer, unpackLeft};
 use assignment::wires::put_entry;
 use assignment::wires::put_word;
+use circuit::circuits::Circuit;
 use circuit::wire::wire_count;
 use encoding::packed::packed_length;
 use encoding::packed::spare_bits;
@@ -39,7 +40,7 @@ pub fn unpack(bits: u64, packed: &[u8], out: &mut [u8]) -> Outcome
     if MOST_BITS < bits {
         return Outcome::Refused(Refusal::LengthAboveLimit);
     }
-    let wires = wire_count(bits);
+    let wires = wire_count(Circuit::Record { bits });
     if (out.len() as u64) < 8 * wires {
         return Outcome::Refused(Refusal::BufferTooShort);
     }

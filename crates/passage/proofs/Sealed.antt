@@ -10,6 +10,7 @@ use lib.ListN.{drop, length, take}
 use lib.Seq.{take-at}
 use native.Mathlib.Omega.{arith}
 use Rattle.circuit.specs.Wires.{wireCount}
+use Rattle.circuit.specs.declared.circuits.Circuit.the-variants.{Record}
 use Rattle.encoding.specs.Bytes.{Bytes}
 use Rattle.passage.proofs.Answers.{line-right}
 use Rattle.passage.proofs.Next.{neither, next-done}
@@ -28,17 +29,17 @@ use Rattle.sm3.specs.Message.{digestBytes}
 record Sealed (s : List ℕ) (d a : ℕ) : Type 0 where
   long : length s ≡ 63
   digest-room : 32 ≤ d
-  assignment-room : 8 * wireCount lineBits ≤ a
+  assignment-room : 8 * wireCount (Record lineBits) ≤ a
 
 sealed-done : (s : List ℕ) (d a : ℕ) → sealAnswer s d a ≡ Done → Sealed s d a
 unfolding sealAnswer
 sealed-done s d a e =
     let told = next-done (lineAnswer s) _ .0 e in
-    let rooms = neither (ltb d 32) (ltb a (8 * wireCount lineBits)) BufferTooShort (told .1) in
+    let rooms = neither (ltb d 32) (ltb a (8 * wireCount (Record lineBits))) BufferTooShort (told .1) in
     record {
       long = line-right s .0 (told .0) .0;
       digest-room = ltb-false d 32 (rooms .0);
-      assignment-room = ltb-false a (8 * wireCount lineBits) (rooms .1);
+      assignment-room = ltb-false a (8 * wireCount (Record lineBits)) (rooms .1);
     }
 
 pub sealed-accepted : SealedAccepted
@@ -48,6 +49,6 @@ sealed-accepted s d a bytes e =
     ap (λ r. take 32 (digestOfLine r s d)) e ∙ take-at (digestBytes lineBits s) (drop 32 d) 32 (length-digest lineBits s) in
     let wires : assignmentOfLine (sealAnswer s (length d) (length a)) s a ≡ produceLeft (produceAnswer lineBits s (length a)) lineBits s a =
     ap (λ r. assignmentOfLine r s a) (e ∙ sym (line-produced s (length a) (sealed .long) (sealed .assignment-room))) in
-    ap (λ t. checkLineAnswer t (take (8 * wireCount lineBits) (assignmentOfLine (sealAnswer s (length d) (length a)) s a))) digest
-    ∙ ap (λ l. checkLineAnswer (digestBytes lineBits s) (take (8 * wireCount lineBits) l)) wires
+    ap (λ t. checkLineAnswer t (take (8 * wireCount (Record lineBits)) (assignmentOfLine (sealAnswer s (length d) (length a)) s a))) digest
+    ∙ ap (λ l. checkLineAnswer (digestBytes lineBits s) (take (8 * wireCount (Record lineBits)) l)) wires
     ∙ demand3 .produced lineBits s a (omega arith) (line-record s bytes (sealed .long)) (sealed .assignment-room)

@@ -6,6 +6,7 @@ use Prim.Native.Nat.{ℕ, _*_, _<_, _≤_}
 use borrow.Author.Tests.{eq-eqb, le-ltb, lt-ltb}
 use lib.ListN.{length}
 use Rattle.circuit.specs.Wires.{wireCount}
+use Rattle.circuit.specs.declared.circuits.Circuit.the-variants.{Record}
 use Rattle.encoding.specs.Bits.{number}
 use Rattle.encoding.specs.Bytes.{Bytes}
 use Rattle.encoding.specs.Packed.{spareBits}
@@ -22,7 +23,7 @@ use Rattle.sm3.specs.Handed.{IsRecord, handedAnswer}
 use Rattle.sm3.specs.Message.{blocks}
 
 -- 8 bytes a wire
-pub assignment-bytes : 8 * wireCount lineBits ≡ 364552
+pub assignment-bytes : 8 * wireCount (Record lineBits) ≡ 364552
 unfolding wireCount blocks
 assignment-bytes = refl
 
@@ -37,9 +38,9 @@ handed-line s more long = simp (eq-eqb (length s) lineLength long)
 pub line-digested : (s : List ℕ) (room : ℕ) → length s ≡ lineLength → 32 ≤ room → digestAnswer lineBits s room ≡ Done
 line-digested s room long enough = handed-line s _ long ∙ simp (le-ltb room 32 enough)
 
-pub line-produced : (s : List ℕ) (room : ℕ) → length s ≡ lineLength → 8 * wireCount lineBits ≤ room
+pub line-produced : (s : List ℕ) (room : ℕ) → length s ≡ lineLength → 8 * wireCount (Record lineBits) ≤ room
     → produceAnswer lineBits s room ≡ Done
-line-produced s room long enough = handed-line s _ long ∙ simp (le-ltb room (8 * wireCount lineBits) enough)
+line-produced s room long enough = handed-line s _ long ∙ simp (le-ltb room (8 * wireCount (Record lineBits)) enough)
 
 module _ (s : List ℕ) (digestRoom assignmentRoom : ℕ) where
   pub seal-refused : (r : Refusal) → lineAnswer s ≡ Refused r → sealAnswer s digestRoom assignmentRoom ≡ Refused r
@@ -52,10 +53,10 @@ module _ (s : List ℕ) (digestRoom assignmentRoom : ℕ) where
     digest-short short = simp (e, lt-ltb digestRoom 32 short)
 
     module _ (enough : 32 ≤ digestRoom) where
-      pub assignment-short : assignmentRoom < 8 * wireCount lineBits → sealAnswer s digestRoom assignmentRoom ≡ Refused BufferTooShort
+      pub assignment-short : assignmentRoom < 8 * wireCount (Record lineBits) → sealAnswer s digestRoom assignmentRoom ≡ Refused BufferTooShort
       unfolding sealAnswer
-      assignment-short short = simp (e, le-ltb digestRoom 32 enough, lt-ltb assignmentRoom (8 * wireCount lineBits) short)
+      assignment-short short = simp (e, le-ltb digestRoom 32 enough, lt-ltb assignmentRoom (8 * wireCount (Record lineBits)) short)
 
-      pub line-sealed : 8 * wireCount lineBits ≤ assignmentRoom → sealAnswer s digestRoom assignmentRoom ≡ Done
+      pub line-sealed : 8 * wireCount (Record lineBits) ≤ assignmentRoom → sealAnswer s digestRoom assignmentRoom ≡ Done
       unfolding sealAnswer
-      line-sealed room = simp (e, le-ltb digestRoom 32 enough, le-ltb assignmentRoom (8 * wireCount lineBits) room)
+      line-sealed room = simp (e, le-ltb digestRoom 32 enough, le-ltb assignmentRoom (8 * wireCount (Record lineBits)) room)

@@ -5,6 +5,7 @@ use mathlib.Core.List.{List}
 use Prim.Native.Nat.{ℕ, _*_}
 use lib.Dec.{ltb}
 use Rattle.circuit.specs.Wires.{wireCount}
+use Rattle.circuit.specs.declared.circuits.Circuit.the-variants.{Record}
 use Rattle.passage.specs.Format.{lineLength}
 use Rattle.passage.specs.Read.{lineAnswer, next}
 use Rattle.record.specs.Check.{checkAnswer}
@@ -23,7 +24,7 @@ lineBits = 8 * lineLength
 unfoldable pub sealAnswer : List ℕ → ℕ → ℕ → Outcome
 sealAnswer s digestRoom assignmentRoom =
     next (lineAnswer s) Refused
-    (cond (ltb digestRoom 32 || ltb assignmentRoom (8 * wireCount lineBits)) (Refused BufferTooShort) Done)
+    (cond (ltb digestRoom 32 || ltb assignmentRoom (8 * wireCount (Record lineBits))) (Refused BufferTooShort) Done)
 
 -- what is left in the buffers: the line's digest and assignment where it is sealed, with the bytes past them
 abbrev pub digestOfLine : Outcome → List ℕ → List ℕ → List ℕ

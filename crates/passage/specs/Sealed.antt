@@ -5,6 +5,7 @@ use mathlib.Core.Path.{_≡_}
 use Prim.Native.Nat.{ℕ, _*_}
 use lib.ListN.{length, take}
 use Rattle.circuit.specs.Wires.{wireCount}
+use Rattle.circuit.specs.declared.circuits.Circuit.the-variants.{Record}
 use Rattle.encoding.specs.Bytes.{Bytes}
 use Rattle.passage.specs.Seal.{assignmentOfLine, checkLineAnswer, digestOfLine, lineBits, sealAnswer}
 use Rattle.refusal.specs.declared.outcome.Outcome.the-variants.{Done}
@@ -13,5 +14,5 @@ abbrev pub SealedAccepted : Type 0
 SealedAccepted =
     (s d a : List ℕ) → Bytes s → sealAnswer s (length d) (length a) ≡ Done
     → checkLineAnswer (take 32 (digestOfLine (sealAnswer s (length d) (length a)) s d))
-    (take (8 * wireCount lineBits) (assignmentOfLine (sealAnswer s (length d) (length a)) s a))
+    (take (8 * wireCount (Record lineBits)) (assignmentOfLine (sealAnswer s (length d) (length a)) s a))
     ≡ Done

@@ -8,6 +8,7 @@ use native.Mathlib.Omega.{arith}
 use lib.Dec.{eqb, ltb}
 use lib.ListN.{length}
 use Rattle.circuit.specs.Wires.{wireCount}
+use Rattle.circuit.specs.declared.circuits.Circuit.the-variants.{Record}
 use Rattle.encoding.proofs.Lowest.{by-lowest}
 use Rattle.passage.proofs.Answers.{line-right, right-fit}
 use Rattle.passage.specs.Format.{axles, lane, lineLength, numberIn}
@@ -39,7 +40,7 @@ next-small (Refused r) more first small = first
 
 pub seal-small : (s : List ℕ) (d a : ℕ) → Small (sealAnswer s d a)
 unfolding sealAnswer
-seal-small s d a = next-small (lineAnswer s) _ (line-small s) (room-small (ltb d 32 || ltb a (8 * wireCount lineBits)))
+seal-small s d a = next-small (lineAnswer s) _ (line-small s) (room-small (ltb d 32 || ltb a (8 * wireCount (Record lineBits))))
 
 pub write-small : (n : Numbers) (p b : List ℕ) (room : ℕ) → Small (writeAnswer n p b room)
 unfolding writeAnswer

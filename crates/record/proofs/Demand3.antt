@@ -13,6 +13,7 @@ use Rattle.assignment.proofs.Entries.{entry-lt, entry-take, entry-written, leng
 use Rattle.assignment.specs.Assignment.{entry, entryBytes}
 use Rattle.circuit.specs.Circuit.{rowAt}
 use Rattle.circuit.specs.Wires.{wireCount}
+use Rattle.circuit.specs.declared.circuits.Circuit.the-variants.{Record}
 use Rattle.encoding.proofs.Bits.{bit-of-bytes-lt}
 use Rattle.encoding.proofs.ByteBits.{bytes-ext}
 use Rattle.encoding.proofs.PackedBits.{length-packed, packed-bit, packed-bytes, spare-of-packed}
@@ -20,7 +21,7 @@ use Rattle.encoding.specs.Bits.{bitOfBytes}
 use Rattle.encoding.specs.Bytes.{Bytes}
 use Rattle.encoding.specs.Packed.{packedBytes}
 use Rattle.forms.proofs.exact.Runs.{Agree}
-use Rattle.record.proofs.Acceptance.{Accepts, accepted-iff}
+use Rattle.record.proofs.Accepted.{accepted-iff}
 use Rattle.record.proofs.DigestBits.{bit-of-digest, digest-bytes, length-digest}
 use Rattle.record.proofs.exact.Record.{readOff, wires-congruent}
 use Rattle.record.proofs.exact.Whole.{circuit, digest-agrees, some-record}
@@ -29,42 +30,44 @@ use Rattle.record.specs.Demand3.{Demand3, HasWires, IsAccepted}
 use Rattle.record.specs.Layout.{wireOf}
 use Rattle.record.specs.Produce.{assignmentOf, produceAnswer, produceLeft}
 use Rattle.refusal.specs.declared.outcome.Outcome.the-variants.{Done}
+use Rattle.satisfaction.proofs.Acceptance.{Accepts}
 use Rattle.sm3.proofs.handed.Asked.{handed-passes}
 use Rattle.sm3.specs.Handed.{IsRecord}
 use Rattle.sm3.specs.Message.{digestBytes, mostBits}
 
 -- An assignment with the wires of a record of n bits is accepted against the record's digest.
 module _ (n : ℕ) (r a : List ℕ) (wires : HasWires n r a) where
-  agree : Agree (entry a) 0 (wireCount n) (wireOf n (bitOfBytes r))
+  agree : Agree (entry a) 0 (wireCount (Record n)) (wireOf n (bitOfBytes r))
   agree k l = ap (entry a) (zero-add k) ∙ wires k l
 
   digest-wires : (k : ℕ) → k < 256 → entry a (1 + k) ≡ bitOfBytes (digestBytes n r) k
   digest-wires k l = digest-agrees n (entry a) (bitOfBytes r) agree k l ∙ sym (bit-of-digest n r k l)
 
-  record-accepted : n ≤ mostBits → length a ≡ 8 * wireCount n → IsAccepted n (digestBytes n r) a
+  record-accepted : n ≤ mostBits → length a ≡ 8 * wireCount (Record n) → IsAccepted n (digestBytes n r) a
   unfolding rowAt wireCount
   record-accepted range long =
       let bits : (k : ℕ) → k < n → bitOfBytes r k < 2 = λ k l. bit-of-bytes-lt r k in
       let one : entry a 0 ≡ 1 = wires 0 (omega arith) ∙ judged-wires n (bitOfBytes r) bits .one in
-      accepted-iff n (digestBytes n r) a .1
-      (record {
-        passed =
-            record {
-              range = range;
-              digest-length = length-digest n r;
-              assignment-length = long;
-              one = one;
-              digest-wires = digest-wires;
-            };
-        satisfied = some-record n (entry a) (record { one = one; below = entry-lt a }) .1 (bitOfBytes r, bits, agree);
-      })
+      accepted-iff n (digestBytes n r) a .1 (
+        range,
+        record {
+          passed =
+              record {
+                digest-length = length-digest n r;
+                assignment-length = long;
+                one = one;
+                digest-wires = digest-wires;
+              };
+          satisfied = some-record n (entry a) (record { one = one; below = entry-lt a }) .1 (bitOfBytes r, bits, agree);
+        },
+      )
 
 -- An accepted assignment has the wires of the record that is read off, and was held against that record's digest.
 module _ (n : ℕ) (d a : List ℕ) (accepted : IsAccepted n d a) where
-  accepts : Accepts n d a
-  accepts = accepted-iff n d a .0 accepted
+  accepts : Accepts (Record n) d a
+  accepts = accepted-iff n d a .0 accepted .1
 
-  pub accepted-wires : (w : ℕ) → w < wireCount n → entry a w ≡ wireOf n (readOff (entry a)) w
+  pub accepted-wires : (w : ℕ) → w < wireCount (Record n) → entry a w ≡ wireOf n (readOff (entry a)) w
   unfolding rowAt
   accepted-wires w l =
       ap (entry a) (sym (zero-add w))
@@ -111,7 +114,7 @@ module _ (n : ℕ) (r rest : List ℕ) where
   left = assignmentOf n (bitOfBytes r) ++ rest
 
   abbrev count : ℕ
-  count = wireCount n
+  count = wireCount (Record n)
 
   produced-wires : HasWires n r (take (8 * count) left)
   unfolding assignmentOf
@@ -131,8 +134,8 @@ module _ (n : ℕ) (r rest : List ℕ) where
   produced-accepted range = record-accepted n r (take (8 * count) left) produced-wires range produced-length
 
 -- .. and a record in range is not refused where there is room
-not-refused : (n : ℕ) (r : List ℕ) (room : ℕ) → n ≤ mostBits → IsRecord n r → 8 * wireCount n ≤ room → produceAnswer n r room ≡ Done
-not-refused n r room range is fits = handed-passes n r _ range is ∙ rw (le-ltb room (8 * wireCount n) fits)
+not-refused : (n : ℕ) (r : List ℕ) (room : ℕ) → n ≤ mostBits → IsRecord n r → 8 * wireCount (Record n) ≤ room → produceAnswer n r room ≡ Done
+not-refused n r room range is fits = handed-passes n r _ range is ∙ rw (le-ltb room (8 * wireCount (Record n)) fits)
 
 pub demand3 : Demand3
 demand3 =
@@ -149,7 +152,7 @@ demand3 =
           );
       produced =
           λ n r out range is room.
-          subst (λ answer. IsAccepted n (digestBytes n r) (take (8 * wireCount n) (produceLeft answer n r out)))
+          subst (λ answer. IsAccepted n (digestBytes n r) (take (8 * wireCount (Record n)) (produceLeft answer n r out)))
           (sym (not-refused n r (length out) range is room))
-          (produced-accepted n r (drop (8 * wireCount n) out) range);
+          (produced-accepted n r (drop (8 * wireCount (Record n)) out) range);
     }

@@ -1,4 +1,4 @@
-pub mod Acceptance
+pub mod Accepted
 pub mod Demand3
 pub mod DigestBits
 pub mod exact

@@ -7,6 +7,7 @@ use Prim.Native.Nat.{_*_}
 use lib.Dec.{ltb}
 use lib.ListN.{length}
 use Rattle.circuit.proofs.WholeBytes as circuit
+use Rattle.circuit.specs.GivenRow.{givenRow}
 use Rattle.circuit.specs.Wires.{frameWires}
 use Rattle.record.specs.Check.{checkAnswer}
 use Rattle.record.specs.Layout.{messageWires, wireOf}
@@ -14,12 +15,13 @@ use Rattle.record.specs.RowAnswer.{rowAnswer}
 use Rattle.record.specs.WholeBytes.{WholeBytes}
 use Rattle.refusal.specs.declared.outcome.Outcome.the-variants.{Done, Refused}
 use Rattle.refusal.specs.declared.outcome.Refusal.the-variants.{BufferTooShort, LengthAboveLimit}
+use Rattle.satisfaction.specs.Check.{circuitCheck}
 use Rattle.sm3.proofs.WholeBytes.{padded-message, whole-bytes, whole-handed}
 use Rattle.sm3.specs.Message.{chainingValue, digestOf}
 use Rattle.sm3.specs.WholeBytes.{mostBytes}
 
 pub record-whole-bytes : WholeBytes
-unfolding wireOf digestOf rowAnswer checkAnswer
+unfolding wireOf digestOf rowAnswer givenRow checkAnswer circuitCheck
 record-whole-bytes =
     record {
       wires =

@@ -1,44 +1,16 @@
 -- The answer of `check` (document 01, "Refusals in checking order").
-use mathlib.Core.Bool.{Bool, cond, not, true, _&&_}
+use mathlib.Core.Bool.{cond}
 use mathlib.Core.List.{List}
-use Prim.Native.Nat.{ℕ, zero, suc, _+_, _*_}
-use lib.Dec.{eqb, ltb}
-use lib.ListN.{length}
-use Rattle.assignment.specs.Assignment.{entry}
-use Rattle.circuit.specs.Circuit.{rowAt}
-use Rattle.circuit.specs.Places.{rowCount}
-use Rattle.circuit.specs.Wires.{wireCount}
-use Rattle.encoding.specs.Bits.{bitOfBytes}
-use Rattle.refusal.specs.declared.outcome.Outcome.the-variants.{Done, Refused}
+use Prim.Native.Nat.{ℕ}
+use lib.Dec.{ltb}
+use Rattle.circuit.specs.declared.circuits.Circuit.the-variants.{Record}
+use Rattle.refusal.specs.declared.outcome.Outcome.the-variants.{Refused}
 use Rattle.refusal.specs.declared.outcome.Outcome.{Outcome}
-use Rattle.refusal.specs.declared.outcome.Refusal.the-variants.{DigestNot32, DigestWire, LengthAboveLimit, Unsatisfied, WireZero, WrongLength}
-use Rattle.satisfaction.specs.Lowest.{lowest}
-use Rattle.satisfaction.specs.declared.rows_check.Verdict.the-variants.{AllSatisfied, Fails}
-use Rattle.satisfaction.specs.declared.rows_check.Verdict.{Verdict}
+use Rattle.refusal.specs.declared.outcome.Refusal.the-variants.{LengthAboveLimit}
+use Rattle.satisfaction.specs.Check.{circuitCheck}
 use Rattle.sm3.specs.Message.{mostBits}
 
--- the first n places of two sequences are the same
-unfoldable pub same : ℕ → (ℕ → ℕ) → (ℕ → ℕ) → Bool
-same zero f g = true
-same (suc n) f g = same n f g && eqb (f n) (g n)
-
--- the answer once the rows are judged
-abbrev pub afterRows : Verdict → Outcome
-afterRows AllSatisfied = Done
-afterRows (Fails k) = Refused (Unsatisfied k)
-
--- the check of an assignment for a record of n bits against a digest, in the paper's order
+-- the check of an assignment for a record of n bits against a digest: "2. The record length is above" 8,127; then 5 to 9, which are
+-- those of every circuit
 unfoldable pub checkAnswer : ℕ → List ℕ → List ℕ → Outcome
-checkAnswer n digest assignment =
-    -- "2. The record length is above" 8,127
-    cond (ltb mostBits n) (Refused LengthAboveLimit)
-    -- "5. The digest that an assignment is held against is not 32 bytes."
-    (cond (not (eqb (length digest) 32)) (Refused DigestNot32)
-    -- "6. An assignment of 8-byte entries handed over to be read is not exactly 8 × wires bytes."
-    (cond (not (eqb (length assignment) (8 * wireCount n))) (Refused WrongLength)
-    -- "7. Wire 0 does not read as 1."
-    (cond (not (eqb (entry assignment 0) 1)) (Refused WireZero)
-    -- "8. A digest wire does not read as its bit of the digest."
-    (cond (not (same 256 (λ k. entry assignment (1 + k)) (bitOfBytes digest))) (Refused DigestWire)
-    -- "9. A row is not satisfied; the lowest row that is not satisfied is returned with it."
-    (afterRows (lowest (entry assignment) (rowAt n) 0 (rowCount n)))))))
+checkAnswer n digest assignment = cond (ltb mostBits n) (Refused LengthAboveLimit) (circuitCheck (Record n) digest assignment)

@@ -8,6 +8,7 @@ use Prim.Native.Nat.{ℕ, _*_, _<_, _≤_}
 use lib.ListN.{length, take}
 use Rattle.assignment.specs.Assignment.{entry}
 use Rattle.circuit.specs.Wires.{wireCount}
+use Rattle.circuit.specs.declared.circuits.Circuit.the-variants.{Record}
 use Rattle.encoding.specs.Bits.{bitOfBytes}
 use Rattle.encoding.specs.Bytes.{Bytes}
 use Rattle.record.specs.Check.{checkAnswer}
@@ -23,16 +24,16 @@ IsAccepted n d a = checkAnswer n d a ≡ Done
 
 -- "A record has an assignment's wires modulo the prime when each entry reads as the record's wire of the same number"
 abbrev pub HasWires : ℕ → List ℕ → List ℕ → Type 0
-HasWires n r a = (w : ℕ) → w < wireCount n → entry a w ≡ wireOf n (bitOfBytes r) w
+HasWires n r a = (w : ℕ) → w < wireCount (Record n) → entry a w ≡ wireOf n (bitOfBytes r) w
 
 pub record Demand3 : Type 0 where
   -- "accepted assignments that agree on the record wires agree everywhere"
   pub unique : (n : ℕ) (d₁ d₂ a₁ a₂ : List ℕ) → IsAccepted n d₁ a₁ → IsAccepted n d₂ a₂
       → ((k : ℕ) → k < n → entry a₁ (recordWire k) ≡ entry a₂ (recordWire k))
-      → (w : ℕ) → w < wireCount n → entry a₁ w ≡ entry a₂ w
+      → (w : ℕ) → w < wireCount (Record n) → entry a₁ w ≡ entry a₂ w
   -- "accepted against a digest exactly when some record of that length has this digest and these wires modulo p"
-  pub exact : (n : ℕ) (d a : List ℕ) → n ≤ mostBits → length d ≡ 32 → Bytes d → length a ≡ 8 * wireCount n → Bytes a
+  pub exact : (n : ℕ) (d a : List ℕ) → n ≤ mostBits → length d ≡ 32 → Bytes d → length a ≡ 8 * wireCount (Record n) → Bytes a
       → (IsAccepted n d a ↔ ((r : List ℕ) × IsRecord n r × (digestBytes n r ≡ d) × HasWires n r a))
   -- "our producer's is always accepted"
-  pub produced : (n : ℕ) (r out : List ℕ) → n ≤ mostBits → IsRecord n r → 8 * wireCount n ≤ length out
-      → IsAccepted n (digestBytes n r) (take (8 * wireCount n) (produceLeft (produceAnswer n r (length out)) n r out))
+  pub produced : (n : ℕ) (r out : List ℕ) → n ≤ mostBits → IsRecord n r → 8 * wireCount (Record n) ≤ length out
+      → IsAccepted n (digestBytes n r) (take (8 * wireCount (Record n)) (produceLeft (produceAnswer n r (length out)) n r out))

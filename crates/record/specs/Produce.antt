@@ -7,6 +7,7 @@ use lib.Dec.{ltb}
 use lib.ListN.{drop}
 use Rattle.assignment.specs.Assignment.{entryBytes}
 use Rattle.circuit.specs.Wires.{wireCount}
+use Rattle.circuit.specs.declared.circuits.Circuit.the-variants.{Record}
 use Rattle.encoding.specs.Bits.{bitOfBytes}
 use Rattle.record.specs.Layout.{wireOf}
 use Rattle.refusal.specs.Refusals.{left}
@@ -17,13 +18,13 @@ use Rattle.sm3.specs.Handed.{handedAnswer}
 
 -- "the whole assignment for a record", of n bits: "Our producer writes every entry as the number 0 or 1"
 unfoldable pub assignmentOf : ℕ → (ℕ → ℕ) → List ℕ
-assignmentOf n r = entryBytes (wireCount n) (wireOf n r)
+assignmentOf n r = entryBytes (wireCount (Record n)) (wireOf n r)
 
 -- the answer for a record of n bits, its bytes and a buffer of `room` bytes: 2, 13, 14, and "4. The buffer to be written is shorter
 -- than .. 8 × wires for an assignment"
 abbrev pub produceAnswer : ℕ → List ℕ → ℕ → Outcome
-produceAnswer n bytes room = handedAnswer n bytes (cond (ltb room (8 * wireCount n)) (Refused BufferTooShort) Done)
+produceAnswer n bytes room = handedAnswer n bytes (cond (ltb room (8 * wireCount (Record n))) (Refused BufferTooShort) Done)
 
 -- what is left in the buffer: the assignment and the bytes past it, which "keep their value"
 abbrev pub produceLeft : Outcome → ℕ → List ℕ → List ℕ → List ℕ
-produceLeft answer n bytes out = left answer (assignmentOf n (bitOfBytes bytes) ++ drop (8 * wireCount n) out) out
+produceLeft answer n bytes out = left answer (assignmentOf n (bitOfBytes bytes) ++ drop (8 * wireCount (Record n)) out) out

@@ -1,48 +1,20 @@
 -- The answer of `row` and the bytes that it leaves (document 01, "Rows" and "Refusals in checking order").
 use mathlib.Core.Bool.{cond}
-use mathlib.Core.List.{List, [], _∷_, _++_}
-use Prim.Native.Nat.{ℕ, _*_}
-use lib.Dec.{leb, ltb}
-use lib.ListN.{drop, length}
-use Rattle.circuit.specs.Circuit.{rowAt}
-use Rattle.circuit.specs.Places.{rowCount}
-use Rattle.forms.specs.Rows.{Row, terms}
-use Rattle.forms.specs.TermBytes.{termsBytes}
-use Rattle.record.specs.declared.row.RowAnswer.the-variants.{Given, Refused}
-use Rattle.record.specs.declared.row.RowAnswer.{RowAnswer}
-use Rattle.refusal.specs.Refusals.{refusalNumber, refusalValues}
-use Rattle.refusal.specs.declared.outcome.Refusal.the-variants.{LengthAboveLimit, RowOutOfRange, BufferTooShort}
+use mathlib.Core.List.{List}
+use Prim.Native.Nat.{ℕ}
+use lib.Dec.{ltb}
+use Rattle.circuit.specs.GivenRow.{givenLeft, givenRow}
+use Rattle.circuit.specs.declared.circuits.Circuit.the-variants.{Record}
+use Rattle.circuit.specs.declared.given_row.RowAnswer.the-variants.{Refused}
+use Rattle.circuit.specs.declared.given_row.RowAnswer.{RowAnswer}
+use Rattle.refusal.specs.declared.outcome.Refusal.the-variants.{LengthAboveLimit}
 use Rattle.sm3.specs.Message.{mostBits}
 
--- "A row is handed over as the terms of A, then B, then C, .. with three counts"
-unfoldable pub counted : Row → RowAnswer
-counted r = Given (length (r .A)) (length (r .B)) (length (r .C))
-
--- "The buffer to be written is shorter than .. 1,956 for a row": 12 bytes for each of 163 terms
-abbrev pub rowBytes : ℕ
-rowBytes = 1956
-
--- for row k of a record of n bits and a buffer of `room` bytes: "2. The record length is above" 8,127. "3. The row number is not
--- below the row count." "4. The buffer to be written is shorter than .."
+-- for row k of a record of n bits and a buffer of `room` bytes: "2. The record length is above" 8,127; then 3 and 4, which are those of
+-- every circuit
 unfoldable pub rowAnswer : ℕ → ℕ → ℕ → RowAnswer
-rowAnswer n k room =
-    cond (ltb mostBits n) (Refused LengthAboveLimit)
-    (cond (leb (rowCount n) k) (Refused RowOutOfRange)
-    (cond (ltb room rowBytes) (Refused BufferTooShort)
-    (counted (rowAt n k))))
+rowAnswer n k room = cond (ltb mostBits n) (Refused LengthAboveLimit) (givenRow (Record n) k room)
 
--- what is left in the buffer: the terms' bytes and the bytes past them, which "keep their value"; "no lent byte changes"
--- on a refusal
-unfoldable pub rowLeft : RowAnswer → ℕ → ℕ → List ℕ → List ℕ
-rowLeft (Given a b c) n k out =
-    termsBytes (terms (rowAt n k)) ++ drop (12 * length (terms (rowAt n k))) out
-rowLeft (Refused r) n k out = out
-
--- the paper's number of each answer, 0 for none, and its values: the three counts
-abbrev pub rowNumber : RowAnswer → ℕ
-rowNumber (Given a b c) = 0
-rowNumber (Refused r) = refusalNumber r
-
-abbrev pub rowValues : RowAnswer → List ℕ
-rowValues (Given a b c) = a ∷ b ∷ c ∷ []
-rowValues (Refused r) = refusalValues r
+-- what is left in the buffer
+abbrev pub rowLeft : RowAnswer → ℕ → ℕ → List ℕ → List ℕ
+rowLeft r n k out = givenLeft r (Record n) k out

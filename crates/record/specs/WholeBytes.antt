@@ -8,16 +8,19 @@ use lib.Dec.{eqb, leb, ltb}
 use lib.ListN.{length}
 use Rattle.assignment.specs.Assignment.{entry}
 use Rattle.circuit.specs.Circuit.{rowAt}
+use Rattle.circuit.specs.GivenRow.{counted}
 use Rattle.circuit.specs.WholeBytes.{rowsOfBytes, wiresOfBytes}
 use Rattle.circuit.specs.Wires.{frameWires}
+use Rattle.circuit.specs.declared.circuits.Circuit.the-variants.{Record}
+use Rattle.circuit.specs.declared.given_row.RowAnswer.the-variants as row
 use Rattle.encoding.specs.Bits.{bitOfBytes}
-use Rattle.record.specs.Check.{afterRows, checkAnswer, same}
+use Rattle.record.specs.Check.{checkAnswer}
 use Rattle.record.specs.Layout.{messageWires, wireOf}
 use Rattle.record.specs.Produce.{produceAnswer}
-use Rattle.record.specs.RowAnswer.{counted, rowAnswer}
-use Rattle.record.specs.declared.row.RowAnswer.the-variants as row
+use Rattle.record.specs.RowAnswer.{rowAnswer}
 use Rattle.refusal.specs.declared.outcome.Outcome.the-variants.{Done, Refused}
 use Rattle.refusal.specs.declared.outcome.Refusal.the-variants.{BufferTooShort, DigestNot32, DigestWire, LengthAboveLimit, RowOutOfRange, WireZero, WrongLength}
+use Rattle.satisfaction.specs.Check.{afterRows, same}
 use Rattle.satisfaction.specs.Lowest.{lowest}
 use Rattle.sm3.specs.Message.{chainingValue}
 use Rattle.sm3.specs.WholeBytes.{blocksOfBytes, mostBytes, paddedBytes}
@@ -34,7 +37,7 @@ pub record WholeBytes : Type 0 where
       ≡ cond (ltb mostBytes L) (row.Refused LengthAboveLimit)
       (cond (leb (rowsOfBytes L) k) (row.Refused RowOutOfRange)
       (cond (ltb room 1956) (row.Refused BufferTooShort)
-      (counted (rowAt (8 * L) k))))
+      (counted (rowAt (Record (8 * L)) k))))
   -- ".. or 8 × wires for an assignment"
   pub produce : (r : List ℕ) (room : ℕ)
       → produceAnswer (8 * length r) r room
@@ -49,4 +52,4 @@ pub record WholeBytes : Type 0 where
       (cond (not (eqb (length a) (8 * wiresOfBytes L))) (Refused WrongLength)
       (cond (not (eqb (entry a 0) 1)) (Refused WireZero)
       (cond (not (same 256 (λ k. entry a (1 + k)) (bitOfBytes d))) (Refused DigestWire)
-      (afterRows (lowest (entry a) (rowAt (8 * L)) 0 (rowsOfBytes L)))))))
+      (afterRows (lowest (entry a) (rowAt (Record (8 * L))) 0 (rowsOfBytes L)))))))

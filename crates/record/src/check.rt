@@ -1,42 +1,11 @@
 // The check of an assignment against a digest.
 ghost use mathlib.Core.Path.{_≡_};
-ghost use Prim.Native.Nat.{ℕ, _+_, _*_, _≤_};
-ghost use lib.ListN.{length};
-ghost use Rattle.assignment.specs.Assignment.{entry};
-ghost use Rattle.encoding.specs.Bits.{bitOfBytes};
-ghost use Rattle.record.specs.Check.{afterRows, checkAnswer, same};
-use assignment::entry::read;
-use circuit::wire::wire_count;
-use encoding::read::bit_at;
-use refusal::numbers::WireNumber;
+ghost use Rattle.record.specs.Check.{checkAnswer};
+use circuit::circuits::Circuit;
 use refusal::outcome::Outcome;
 use refusal::outcome::Refusal;
-use satisfaction::blocks_check::lowest_unsatisfied;
-use satisfaction::rows_check::Verdict;
+use satisfaction::circuit_check::check_circuit;
 use sm3::message::MOST_BITS;
-
-// Whether each digest wire reads as its bit of the digest.
-fn digest_agrees(digest: &[u8], assignment: &[u8]) -> bool
-    requires { ⌜ (length (now digest) ≡ 32) × (8 * 257 ≤ length (now assignment)) ⌝ }
-    ensures { λ r. ⌜ r ≡ same 256 (λ (k : ℕ). entry (now (assignment .entry)) (1 + k)) (bitOfBytes (now (digest .entry))) ⌝ }
-{
-    for k in 0..256 {
-        if read(assignment, WireNumber(1 + k)) != bit_at(digest, k) {
-            return false;
-        }
-    }
-    true
-}
-
-// The answer once the rows are judged.
-fn after_rows(verdict: Verdict) -> Outcome
-    ensures { λ r. ⌜ r ≡ afterRows verdict ⌝ }
-{
-    match verdict {
-        Verdict::AllSatisfied => Outcome::Done,
-        Verdict::Fails(row) => Outcome::Refused(Refusal::Unsatisfied(row)),
-    }
-}
 
 // The check of an assignment for a record of so many bits against a digest.
 pub fn check(bits: u64, digest: &[u8], assignment: &[u8]) -> Outcome
@@ -45,17 +14,5 @@ pub fn check(bits: u64, digest: &[u8], assignment: &[u8]) -> Outcome
     if MOST_BITS < bits {
         return Outcome::Refused(Refusal::LengthAboveLimit);
     }
-    if digest.len() != 32 {
-        return Outcome::Refused(Refusal::DigestNot32);
-    }
-    if assignment.len() as u64 != 8 * wire_count(bits) {
-        return Outcome::Refused(Refusal::WrongLength);
-    }
-    if read(assignment, WireNumber(0)) != 1 {
-        return Outcome::Refused(Refusal::WireZero);
-    }
-    if !digest_agrees(digest, assignment) {
-        return Outcome::Refused(Refusal::DigestWire);
-    }
-    after_rows(lowest_unsatisfied(bits, assignment))
+    check_circuit(Circuit::Record { bits }, digest, assignment)
 }

@@ -5,6 +5,7 @@ ghost use lib.ListN.{length};
 ghost use Rattle.assignment.specs.Wrote.{Wrote};
 ghost use Rattle.block.specs.Wires.{wiresPerBlock};
 ghost use Rattle.circuit.specs.Wires.{wireCount, firstBlock};
+ghost use Rattle.circuit.specs.declared.circuits.Circuit.the-variants.{Record};
 ghost use Rattle.encoding.specs.Bits.{bitOfBytes};
 ghost use Rattle.encoding.specs.Packed.{packedLength};
 ghost use Rattle.record.specs.Layout.{messageWires, wireOf};
@@ -13,6 +14,7 @@ ghost use Rattle.sm3.specs.Message.{blocks, digestOf, message, mostBits};
 use assignment::block_wires::put_block;
 use assignment::wires::put_entry;
 use assignment::wires::put_state;
+use circuit::circuits::Circuit;
 use circuit::wire::DIGEST;
 use circuit::wire::START;
 use circuit::wire::block_first;
@@ -29,7 +31,7 @@ use sm3::state::State;
 
 // The message's blocks, one at a time, each with the state that the one before it left, and the last one's: the digest.
 fn put_message(out: &mut [u8], bits: u64, bytes: &[u8]) -> State
-    requires { ⌜ (bits ≤ mostBits) × (length (now bytes) ≡ packedLength bits) × (8 * wireCount bits ≤ length (now out)) ⌝ }
+    requires { ⌜ (bits ≤ mostBits) × (length (now bytes) ≡ packedLength bits) × (8 * wireCount (Record bits) ≤ length (now out)) ⌝ }
     ensures { λ r. ⌜ r ≡ digestOf bits (bitOfBytes (now (bytes .entry))) ⌝ }
     ensures { λ _. ⌜ Wrote firstBlock (wiresPerBlock * blocks bits) (messageWires (message bits (bitOfBytes (now (bytes .entry))))) (now (out .entry)) (now (out .exit)) ⌝ }
 {
@@ -49,9 +51,9 @@ fn put_message(out: &mut [u8], bits: u64, bytes: &[u8]) -> State
 }
 
 // All wires of a record. The digest stands before the blocks that it comes from, so they are written from the last on.
-fn put_assignment(out: &mut [u8], bits: u64, bytes: &[u8])
-    requires { ⌜ (bits ≤ mostBits) × (length (now bytes) ≡ packedLength bits) × (8 * wireCount bits ≤ length (now out)) ⌝ }
-    ensures { λ _. ⌜ Wrote 0 (wireCount bits) (wireOf bits (bitOfBytes (now (bytes .entry)))) (now (out .entry)) (now (out .exit)) ⌝ }
+pub fn put_assignment(out: &mut [u8], bits: u64, bytes: &[u8])
+    requires { ⌜ (bits ≤ mostBits) × (length (now bytes) ≡ packedLength bits) × (8 * wireCount (Record bits) ≤ length (now out)) ⌝ }
+    ensures { λ _. ⌜ Wrote 0 (wireCount (Record bits)) (wireOf bits (bitOfBytes (now (bytes .entry)))) (now (out .entry)) (now (out .exit)) ⌝ }
 {
     let digest = put_message(out, bits, bytes);
     put_state(out, WireNumber(START), start_state());
@@ -68,7 +70,7 @@ pub fn produce(bits: u64, bytes: &[u8], out: &mut [u8]) -> Outcome
     if let Outcome::Refused(refusal) = answer {
         return Outcome::Refused(refusal);
     }
-    let wires = wire_count(bits);
+    let wires = wire_count(Circuit::Record { bits });
     if (out.len() as u64) < 8 * wires {
         return Outcome::Refused(Refusal::BufferTooShort);
     }

@@ -5,8 +5,8 @@ use mathlib.Core.List.{[], _∷_}
 use mathlib.Core.Path.{_≡_, _∙_, ap, refl, sym}
 use Prim.Native.Nat.{ℕ, _/_, _%_}
 use native.Mathlib.Omega.{arith}
-use Rattle.record.specs.declared.row.RowAnswer.{RowAnswer}
-use Rattle.record.specs.declared.row.RowAnswer.the-variants.{Given, Refused}
+use Rattle.circuit.specs.declared.given_row.RowAnswer.{RowAnswer}
+use Rattle.circuit.specs.declared.given_row.RowAnswer.the-variants.{Given, Refused}
 use Rattle.refusal.proofs.Injective.{apart, injective, refusal-injective, refused}
 use Rattle.refusal.specs.Packing.{above}
 use Rattle.sm3rows.specs.Packing.{packedRow}

@@ -10,16 +10,19 @@ use lib.Dec.{eqb, leb, lit<, ltb}
 use lib.ListN.{length, length-append}
 use Rattle.circuit.proofs.shape.Shape.{shape}
 use Rattle.circuit.specs.Circuit.{rowAt}
+use Rattle.circuit.specs.GivenRow.{counted, givenRow, rowBytes}
 use Rattle.circuit.specs.Places.{rowCount}
+use Rattle.circuit.specs.Ranges.{Allowed}
 use Rattle.circuit.specs.Wires.{wireCount}
+use Rattle.circuit.specs.declared.circuits.Circuit.the-variants.{Record}
+use Rattle.circuit.specs.declared.circuits.Circuit.{Circuit}
 use Rattle.encoding.proofs.Lowest.{by-lowest}
 use Rattle.encoding.specs.Packed.{packedLength, spareBits}
 use Rattle.forms.specs.Rows.{terms}
 use Rattle.packing.specs.Pack.{bitsAnswer, packAnswer}
 use Rattle.packing.specs.Unpack.{packedAnswer, unpackAnswer}
 use Rattle.record.specs.Produce.{produceAnswer}
-use Rattle.record.specs.RowAnswer.{counted, rowAnswer, rowBytes}
-use Rattle.record.specs.declared.row.RowAnswer.{RowAnswer}
+use Rattle.record.specs.RowAnswer.{rowAnswer}
 use Rattle.refusal.proofs.Small.{Small, bare, done-small, room-small, tested}
 use Rattle.refusal.specs.declared.outcome.Outcome.the-variants.{Done}
 use Rattle.refusal.specs.declared.outcome.Outcome.{Outcome}
@@ -42,42 +45,45 @@ pub digest-small : (n : ℕ) (r : List ℕ) (room : ℕ) → Small (digestAnswer
 digest-small n r room = handed-small n r _ (room-small (ltb room 32))
 
 pub produce-small : (n : ℕ) (r : List ℕ) (room : ℕ) → Small (produceAnswer n r room)
-produce-small n r room = handed-small n r _ (room-small (ltb room (8 * wireCount n)))
+produce-small n r room = handed-small n r _ (room-small (ltb room (8 * wireCount (Record n))))
 
-counts-small : (n k : ℕ) → k < rowCount n → SmallRow (counted (rowAt n k))
-unfolding counted terms
-counts-small n k below =
-    let few = simp length-append at (shape n k below .few) in
-    (omega arith, omega arith, omega arith)
+module _ (C : Circuit) (allowed : Allowed C) (k room : ℕ) where
+  counts-small : k < rowCount C → SmallRow (counted (rowAt C k))
+  unfolding counted terms
+  counts-small below =
+      let few = simp length-append at (shape C allowed k below .few) in
+      (omega arith, omega arith, omega arith)
+
+  given-small : SmallRow (givenRow C k room)
+  unfolding givenRow
+  given-small =
+      tested SmallRow (leb (rowCount C) k) (lit< tt)
+      (λ e. tested SmallRow (ltb room rowBytes) (lit< tt) (λ _. counts-small (leb-false (rowCount C) k e)))
 
 pub row-small : (n k room : ℕ) → SmallRow (rowAnswer n k room)
 unfolding rowAnswer
-row-small n k room =
-    tested SmallRow (ltb mostBits n) (lit< tt)
-    (λ _.
-    tested SmallRow (leb (rowCount n) k) (lit< tt)
-    (λ e. tested SmallRow (ltb room rowBytes) (lit< tt) (λ _. counts-small n k (leb-false (rowCount n) k e))))
+row-small n k room = tested SmallRow (ltb mostBits n) (lit< tt) (λ e. given-small (Record n) (ltb-false mostBits n e) k room)
 
-bits-small : (n : ℕ) (a : List ℕ) → n ≤ mostBits → Small (bitsAnswer a 0 (wireCount n))
+bits-small : (n : ℕ) (a : List ℕ) → n ≤ mostBits → Small (bitsAnswer a 0 (wireCount (Record n)))
 unfolding bitsAnswer wireCount blocks
 bits-small n a range =
-    by-lowest _ _ Small Done 0 (wireCount n) (λ _. done-small) (λ j low. record { room = omega (arith, low .below) })
+    by-lowest _ _ Small Done 0 (wireCount (Record n)) (λ _. done-small) (λ j low. record { room = omega (arith, low .below) })
 
 pub pack-small : (n : ℕ) (a : List ℕ) (room : ℕ) → Small (packAnswer n a room)
 unfolding packAnswer
 pack-small n a room =
     tested Small (ltb mostBits n) (bare refl)
     (λ e.
-    tested Small (ltb room (packedLength (wireCount n))) (bare refl)
+    tested Small (ltb room (packedLength (wireCount (Record n)))) (bare refl)
     (λ _.
-    tested Small (not (eqb (length a) (8 * wireCount n))) (bare refl) (λ _. bits-small n a (ltb-false mostBits n e))))
+    tested Small (not (eqb (length a) (8 * wireCount (Record n)))) (bare refl) (λ _. bits-small n a (ltb-false mostBits n e))))
 
 pub unpack-small : (n : ℕ) (p : List ℕ) (room : ℕ) → Small (unpackAnswer n p room)
 unfolding unpackAnswer packedAnswer
 unpack-small n p room =
     tested Small (ltb mostBits n) (bare refl)
     (λ _.
-    tested Small (ltb room (8 * wireCount n)) (bare refl)
+    tested Small (ltb room (8 * wireCount (Record n))) (bare refl)
     (λ _.
-    tested Small (not (eqb (length p) (packedLength (wireCount n)))) (bare refl)
-    (λ _. tested Small (not (eqb (spareBits (wireCount n) p) 0)) (bare refl) (λ _. done-small))))
+    tested Small (not (eqb (length p) (packedLength (wireCount (Record n))))) (bare refl)
+    (λ _. tested Small (not (eqb (spareBits (wireCount (Record n)) p) 0)) (bare refl) (λ _. done-small))))

@@ -2,8 +2,8 @@
 -- room in one number.
 use Prim.Native.Nat.{_<_, _≤_, _^_}
 use Rattle.forms.specs.Shape.{mostTerms}
-use Rattle.record.specs.declared.row.RowAnswer.{RowAnswer}
-use Rattle.record.specs.declared.row.RowAnswer.the-variants.{Given, Refused}
+use Rattle.circuit.specs.declared.given_row.RowAnswer.{RowAnswer}
+use Rattle.circuit.specs.declared.given_row.RowAnswer.the-variants.{Given, Refused}
 use Rattle.refusal.specs.Packing.{above}
 use Rattle.refusal.specs.Refusals.{refusalValues}
 

@@ -11,7 +11,7 @@ ghost use Rattle.refusal.specs.Packing.{packedOutcome};
 ghost use Rattle.sm3.specs.Digest.{digestAnswer, digestLeft};
 ghost use Rattle.sm3rows.specs.Packing.{packedRow};
 ghost use Rattle.sm3rows.specs.Small.{SmallRow};
-use record::row::RowAnswer;
+use circuit::given_row::RowAnswer;
 use refusal::numbers::RowNumber;
 use refusal::packing::pack_outcome;
 use refusal::packing::pack_refusal;

@@ -6,6 +6,7 @@ use Prim.Native.Nat.{ℕ, _*_, _≤_}
 use native.Mathlib.Omega.{arith}
 use borrow.Author.Tests.{le-ltb}
 use lib.ListN.{drop-of-length-le, length, take}
+use Rattle.circuit.specs.declared.circuits.Circuit.the-variants.{Record}
 use Rattle.record.proofs.Demand3.{demand3}
 use Rattle.record.specs.Check.{checkAnswer}
 use Rattle.record.specs.Produce.{produceAnswer, produceLeft}
@@ -29,15 +30,15 @@ digest-left n r before after answer range is room e left =
     ∙ append-nil (digestBytes n r)
 
 pub produced-accepted : (n : ℕ) (r out before digest left : List ℕ) (end : ℕ) (hashed made checked : Outcome)
-    → n ≤ mostBits → IsRecord n r → 8 * wireCount n ≤ length out → length before ≡ 32
+    → n ≤ mostBits → IsRecord n r → 8 * wireCount (Record n) ≤ length out → length before ≡ 32
     → hashed ≡ digestAnswer n r (length before) → digest ≡ digestLeft hashed n r before
     → made ≡ produceAnswer n r (length out) → left ≡ produceLeft made n r out
-    → end ≡ 8 * wireCount n
+    → end ≡ 8 * wireCount (Record n)
     → checked ≡ checkAnswer n digest (take end left)
     → checked ≡ Done
 produced-accepted n r out before digest left end hashed made checked range is room long eh ed em el ee ec =
     ec
     ∙ ap (λ t. checkAnswer n t (take end left)) (digest-left n r before digest hashed range is long eh ed)
     ∙ ap (λ m. checkAnswer n (digestBytes n r) (take m left)) ee
-    ∙ ap (λ l. checkAnswer n (digestBytes n r) (take (8 * wireCount n) l)) (el ∙ ap (λ q. produceLeft q n r out) em)
+    ∙ ap (λ l. checkAnswer n (digestBytes n r) (take (8 * wireCount (Record n)) l)) (el ∙ ap (λ q. produceLeft q n r out) em)
     ∙ demand3 .produced n r out range is room

@@ -4,6 +4,7 @@ ghost use Prim.Native.Nat.{_+_, _*_, _<_, _≤_};
 ghost use lib.ListN.{length};
 ghost use Rattle.circuit.specs.Wires.{wireCount, firstBlock};
 ghost use Rattle.block.specs.Wires.{wiresPerBlock};
+ghost use Rattle.circuit.specs.declared.circuits.Circuit.the-variants.{Record};
 ghost use Rattle.sm3.specs.Message.{mostBits};
 use crate::line::show;
 use assignment::entry::raw;
@@ -43,7 +44,7 @@ fn change(bits: u64, what: &[u8], digest: &[u8], assignment: &mut [u8], w: WireN
 // The wire of bit k of the message of a record of so many bits: a bit of the record, or the first of its padding.
 fn message_wire(bits: u64, k: u64) -> WireNumber
     requires { ⌜ (bits ≤ mostBits) × (k ≤ bits) ⌝ }
-    ensures { λ r. ⌜ r .0 < wireCount bits ⌝ }
+    ensures { λ r. ⌜ r .0 < wireCount (Record bits) ⌝ }
 {
     let first = block_first(k / 512);
     WireNumber(first.0 + k % 512)
@@ -52,7 +53,7 @@ fn message_wire(bits: u64, k: u64) -> WireNumber
 // The first wire of the last block of a record of so many bits.
 fn last_block(bits: u64) -> WireNumber
     requires { ⌜ bits ≤ mostBits ⌝ }
-    ensures { λ r. ⌜ r .0 + wiresPerBlock ≡ wireCount bits ⌝ }
+    ensures { λ r. ⌜ r .0 + wiresPerBlock ≡ wireCount (Record bits) ⌝ }
 {
     block_first(block_count(bits) - 1)
 }
@@ -68,7 +69,7 @@ fn change_frame(bits: u64, digest: &[u8], assignment: &mut [u8])
 
 // Wires of the message: the padding's first bit, and the record's last where it has one.
 fn change_message(bits: u64, digest: &[u8], assignment: &mut [u8])
-    requires { ⌜ (bits ≤ mostBits) × (length (now assignment) ≡ 8 * wireCount bits) ⌝ }
+    requires { ⌜ (bits ≤ mostBits) × (length (now assignment) ≡ 8 * wireCount (Record bits)) ⌝ }
 {
     let padding = message_wire(bits, bits);
     change(bits, b"padding", digest, assignment, padding);
@@ -81,7 +82,7 @@ fn change_message(bits: u64, digest: &[u8], assignment: &mut [u8])
 
 // Wires of the last block: a carry of its last round, and the last wire of its result.
 fn change_last_block(bits: u64, digest: &[u8], assignment: &mut [u8])
-    requires { ⌜ (bits ≤ mostBits) × (length (now assignment) ≡ 8 * wireCount bits) ⌝ }
+    requires { ⌜ (bits ≤ mostBits) × (length (now assignment) ≡ 8 * wireCount (Record bits)) ⌝ }
 {
     let last = last_block(bits);
     let carry = last.0 + ROUNDS + ROUND_WIDTH * 63 + TT2 + 33;
@@ -139,7 +140,7 @@ fn add_p(assignment: &mut [u8]) {
 
 // Every change to an assignment that is accepted, and the check after each.
 pub fn change_all(bits: u64, digest: [u8; 32], assignment: &mut [u8])
-    requires { ⌜ (bits ≤ mostBits) × (length digest ≡ 32) × (length (now assignment) ≡ 8 * wireCount bits) × (8 * firstBlock ≤ length (now assignment)) ⌝ }
+    requires { ⌜ (bits ≤ mostBits) × (length digest ≡ 32) × (length (now assignment) ≡ 8 * wireCount (Record bits)) × (8 * firstBlock ≤ length (now assignment)) ⌝ }
 {
     change_frame(bits, &digest, assignment);
     change_message(bits, &digest, assignment);

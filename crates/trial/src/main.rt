@@ -23,6 +23,7 @@ ghost use mathlib.Core.Path.{_≡_};
 ghost use Prim.Native.Nat.{_*_, _≤_};
 ghost use lib.ListN.{length};
 ghost use Rattle.circuit.specs.Wires.{wireCount};
+ghost use Rattle.circuit.specs.declared.circuits.Circuit.the-variants.{Record};
 ghost use Rattle.encoding.specs.Packed.{packedLength, spareBits};
 ghost use Rattle.refusal.specs.declared.outcome.Outcome.the-variants.{Done};
 ghost use Rattle.sm3.specs.Message.{mostBits};
@@ -32,6 +33,7 @@ mod line;
 
 use crate::changes::change_all;
 use crate::line::show;
+use circuit::circuits::Circuit;
 use circuit::wire::wire_count;
 use encoding::packed::packed_length;
 use record::check::check;
@@ -44,12 +46,12 @@ use sm3::handed::handed;
 
 // The digest of a record of so many bits and its assignment, and the check of the one against the other.
 fn produce_and_check(bits: u64, bytes: &[u8], sum: &mut [u8], out: &mut [u8]) -> Outcome
-    requires { ⌜ (bits ≤ mostBits) × (length (now bytes) ≡ packedLength bits) × (spareBits bits (now bytes) ≡ 0) × (length (now sum) ≡ 32) × (8 * wireCount bits ≤ length (now out)) ⌝ }
+    requires { ⌜ (bits ≤ mostBits) × (length (now bytes) ≡ packedLength bits) × (spareBits bits (now bytes) ≡ 0) × (length (now sum) ≡ 32) × (8 * wireCount (Record bits) ≤ length (now out)) ⌝ }
     ensures { λ r. ⌜ r ≡ Done ⌝ }
 {
     digest(bits, bytes, sum);
     produce(bits, bytes, out);
-    let end = (8 * wire_count(bits)) as usize;
+    let end = (8 * wire_count(Circuit::Record { bits })) as usize;
     check(bits, sum, &out[..end])
 }
 
@@ -63,7 +65,7 @@ fn try_record(bits: u64, bytes: &[u8], room: &mut [u8])
         b"produced",
         produce_and_check(bits, bytes, &mut sum, room),
     );
-    let end = (8 * wire_count(bits)) as usize;
+    let end = (8 * wire_count(Circuit::Record { bits })) as usize;
     change_all(bits, sum, &mut room[..end]);
 }
 

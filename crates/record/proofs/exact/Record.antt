@@ -9,6 +9,7 @@ use native.Mathlib.Omega.{arith}
 use Rattle.block.specs.BlockWires.{blockWires}
 use Rattle.block.specs.Wires.{wiresPerBlock}
 use Rattle.circuit.specs.Wires.{frameWires, wireCount, blockFirst}
+use Rattle.circuit.specs.declared.circuits.Circuit.the-variants.{Record}
 use Rattle.encoding.proofs.Sequence.{beside-first, beside-then, grid-at}
 use Rattle.forms.proofs.exact.Runs.{Agree}
 use Rattle.record.specs.Layout.{messageWires, recordWire, wireOf}
@@ -47,12 +48,12 @@ wire-of-record n r k l =
     ∙ ap (message n r) (div-add-mod k 512)
     ∙ message-content n r k l
 
-record-wire-lt : (n k : ℕ) → k < n → recordWire k < wireCount n
+record-wire-lt : (n k : ℕ) → k < n → recordWire k < wireCount (Record n)
 unfolding wireCount recordWire blocks
 record-wire-lt n k l = omega arith
 
 -- where the wires agree, the record is read off again
-pub read-off : (n : ℕ) (a r : ℕ → ℕ) → ((k : ℕ) → k < n → r k < 2) → Agree a 0 (wireCount n) (wireOf n r)
+pub read-off : (n : ℕ) (a r : ℕ → ℕ) → ((k : ℕ) → k < n → r k < 2) → Agree a 0 (wireCount (Record n)) (wireOf n r)
     → (k : ℕ) → k < n → readOff a k ≡ r k
 read-off n a r bits agree k l =
     ap (λ w. a w % 2) (sym (zero-add (recordWire k)))

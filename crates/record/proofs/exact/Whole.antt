@@ -17,6 +17,7 @@ use Rattle.circuit.specs.Circuit.{begins, digestForm, formAt, formOf}
 use Rattle.circuit.specs.Circuits.{appendedForm, appendedRows, messageOf}
 use Rattle.circuit.specs.Places.{rowCount}
 use Rattle.circuit.specs.Wires.{blockFirst, digestFirst, firstBlock, startFirst, wireCount}
+use Rattle.circuit.specs.declared.circuits.Circuit.the-variants.{Record}
 use Rattle.encoding.specs.Sequence.{grid}
 use Rattle.forms.proofs.exact.Runs.{Agree, Holds, Judged, and-given}
 use Rattle.forms.proofs.exact.Words.{bit-row}
@@ -46,10 +47,10 @@ module _ (a : ℕ → ℕ) (J : Judged a) (n : ℕ) where
   read-lt : (k : ℕ) → read k < 2
   read-lt = message-lt n (readOff a) (λ k l. omega arith)
 
-  bits-run : (i : ℕ) → Holds a 512 (grid 32 (formOf n i Message)) ↔ Agree a (blockFirst i) 512 (blockBits read i)
+  bits-run : (i : ℕ) → Holds a 512 (grid 32 (formOf (Record n) i Message)) ↔ Agree a (blockFirst i) 512 (blockBits read i)
   bits-run i =
-      subst (λ (j : ℕ). Holds a 512 (grid 32 (formOf n i Message)) ↔ Agree a (blockFirst i) 512 (blockBits read j)) (sub-zero i)
-      (message-run a J n i (readOff a)
+      subst (λ (j : ℕ). Holds a 512 (grid 32 (formOf (Record n) i Message)) ↔ Agree a (blockFirst i) 512 (blockBits read j)) (sub-zero i)
+      (message-run a J (Record n) i (readOff a)
       (λ k l below.
       let bit : 512 * (i - 0) + k ≡ 512 * i + k = omega arith in
       let same : readOff a (512 * (i - 0) + k) ≡ a (blockFirst i + k) % 2 =
@@ -57,13 +58,13 @@ module _ (a : ℕ → ℕ) (J : Judged a) (n : ℕ) where
       Iff·trans (bit-row a J (blockFirst i + k)) (omega arith, omega arith)))
 
   blocks-hold : Agree a startFirst 256 (stateWires start)
-      → (Holds a (blockRows * blocks n) (grid blockRows (blockRowsOf n)) ↔ Agree a firstBlock (wiresPerBlock * blocks n) (messageWires read))
+      → (Holds a (blockRows * blocks n) (grid blockRows (blockRowsOf (Record n))) ↔ Agree a firstBlock (wiresPerBlock * blocks n) (messageWires read))
   unfolding messageWires blockBits
   blocks-hold begin =
-      blocks-run a (chainingValue read) (blockBits read) J (λ i. begins (messageOf n i) i) (λ i. grid 32 (formOf n i Message)) (blocks n)
+      blocks-run a (chainingValue read) (blockBits read) J (λ i. begins (messageOf (Record n) i) i) (λ i. grid 32 (formOf (Record n) i Message)) (blocks n)
       (λ i l k h. read-lt (512 * i + k))
       (λ i l earlier.
-      begun a J (chainingValue read) (blockBits read) begin (messageOf n i) i (chaining-words read i) (first-begins read i) (chained read i) earlier)
+      begun a J (chainingValue read) (blockBits read) begin (messageOf (Record n) i) i (chaining-words read i) (first-begins read i) (chained read i) earlier)
       (λ i l earlier. bits-run i)
 
   digest-hold : Agree a firstBlock (wiresPerBlock * blocks n) (messageWires read)
@@ -78,13 +79,13 @@ module _ (a : ℕ → ℕ) (J : Judged a) (n : ℕ) where
       (block-of a (chainingValue read) (blockBits read) (blocks n) e (blocks n - 1) (omega arith))))
 
 -- all wires, of which none are appended
-record-wires : (n : ℕ) (a r : ℕ → ℕ) → Agree a 0 (wireCount n) (wireOf n r)
+record-wires : (n : ℕ) (a r : ℕ → ℕ) → Agree a 0 (wireCount (Record n)) (wireOf n r)
     ↔ (Agree a 0 1 (λ k. 1)
     × (Agree a digestFirst 256 (stateWires (digestOf n r))
     × (Agree a startFirst 256 (stateWires start) × Agree a firstBlock (wiresPerBlock * blocks n) (messageWires (message n r)))))
 unfolding wireOf wireCount
 record-wires n a r =
-    let all : firstBlock + wiresPerBlock * blocks n ≡ wireCount n = omega arith in
+    let all : firstBlock + wiresPerBlock * blocks n ≡ wireCount (Record n) = omega arith in
     subst
     (λ m. Agree a 0 m (wireOf n r)
     ↔ (Agree a 0 1 (λ k. 1)
@@ -93,11 +94,11 @@ record-wires n a r =
     all
     (wires-apart a (wiresPerBlock * blocks n) (digestOf n r) (messageWires (message n r)))
 
-pub circuit : (n : ℕ) (a : ℕ → ℕ) → Judged a → (Holds a (rowCount n) (formAt n) ↔ Agree a 0 (wireCount n) (wireOf n (readOff a)))
+pub circuit : (n : ℕ) (a : ℕ → ℕ) → Judged a → (Holds a (rowCount (Record n)) (formAt (Record n)) ↔ Agree a 0 (wireCount (Record n)) (wireOf n (readOff a)))
 circuit n a J =
     let one : Agree a 0 1 (λ k. 1) = λ k l. let first : 0 + k ≡ 0 = omega arith in ap a first ∙ J .one in
-    let none : Holds a (appendedRows n) (appendedForm n) = λ k l. absurd (omega arith) in
-    Iff·trans (rows-apart n a)
+    let none : Holds a (appendedRows (Record n)) (appendedForm (Record n)) = λ k l. absurd (omega arith) in
+    Iff·trans (rows-apart (Record n) a)
     (Iff·trans
     (and-given (start-run a J)
     (λ s. and-given (blocks-hold a J n s) (λ e. and-given (digest-hold a J n e) (λ d. (λ h. h, λ h. h)))))
@@ -106,14 +107,14 @@ circuit n a J =
 
 -- .. and so exactly where they are those of some record
 pub some-record : (n : ℕ) (a : ℕ → ℕ) → Judged a
-    → (Holds a (rowCount n) (formAt n) ↔ ((r : ℕ → ℕ) × ((k : ℕ) → k < n → r k < 2) × Agree a 0 (wireCount n) (wireOf n r)))
+    → (Holds a (rowCount (Record n)) (formAt (Record n)) ↔ ((r : ℕ → ℕ) × ((k : ℕ) → k < n → r k < 2) × Agree a 0 (wireCount (Record n)) (wireOf n r)))
 some-record n a J = (
   λ h. (readOff a, λ k l. omega arith, circuit n a J .0 h),
   λ (r, bits, agree).
       circuit n a J .1
-      (subst (Agree a 0 (wireCount n)) (wires-congruent n r (readOff a) (λ k l. sym (read-off n a r bits agree k l))) agree),
+      (subst (Agree a 0 (wireCount (Record n))) (wires-congruent n r (readOff a) (λ k l. sym (read-off n a r bits agree k l))) agree),
 )
 
 -- where the wires agree, the digest wires among them have the digest
-pub digest-agrees : (n : ℕ) (a r : ℕ → ℕ) → Agree a 0 (wireCount n) (wireOf n r) → Agree a digestFirst 256 (stateWires (digestOf n r))
+pub digest-agrees : (n : ℕ) (a r : ℕ → ℕ) → Agree a 0 (wireCount (Record n)) (wireOf n r) → Agree a digestFirst 256 (stateWires (digestOf n r))
 digest-agrees n a r e = record-wires n a r .0 e .1 .0

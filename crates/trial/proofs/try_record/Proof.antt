@@ -6,6 +6,7 @@ use lib.ListN.{length}
 use lib.Seq.{length-take-le}
 use Rattle.circuit.specs.Wires.{wireCount}
 use Rattle.circuit.specs.Wires.{firstBlock}
+use Rattle.circuit.specs.declared.circuits.Circuit.the-variants.{Record}
 use Rattle.sm3.specs.Message.{blocks}
 use borrow.Author.Needs.{needs}
 use Rattle.trial.proofs.Front.{of-front}
@@ -47,7 +48,7 @@ change-all-requires c κs =
     let wires = c .before .wire-count .ensures .0 in (
       start .pre .0,
       search needs,
-      of-front (λ n. n ≡ 8 * wireCount (start .args .bits)) _ _ (ap (λ n. 8 * n) wires) (omega (arith, wires, start .pre .0)),
+      of-front (λ n. n ≡ 8 * wireCount (Record (start .args .bits))) _ _ (ap (λ n. 8 * n) wires) (omega (arith, wires, start .pre .0)),
       of-front (λ n. 8 * firstBlock ≤ n) (8 * c .before .wire-count .result) _ (omega (arith, wires)) (omega (arith, wires, start .pre .0)),
     )
 

@@ -7,6 +7,7 @@ use borrow.Author.Tests.{eq-eqb, le-ltb, lt-ltb, ne-eqb}
 use lib.ListN.{length}
 use Rattle.assignment.specs.Assignment.{entry}
 use Rattle.circuit.specs.Wires.{wireCount}
+use Rattle.circuit.specs.declared.circuits.Circuit.the-variants.{Record}
 use Rattle.encoding.proofs.PackedBits.{length-packed}
 use Rattle.encoding.proofs.Written.{written-as, written-front}
 use Rattle.encoding.specs.Packed.{packedBytes, packedLength}
@@ -35,7 +36,7 @@ unfolding packAnswer
 returns-2 c =
     let tests = c .before .before .before in
     let a = tests .before .before .before .args in
-    let short : length (now (a .out)) < packedLength (wireCount (a .bits)) = omega arith in
+    let short : length (now (a .out)) < packedLength (wireCount (Record (a .bits))) = omega arith in
     (simp (le-ltb _ _ (tests .if1 .left), lt-ltb _ _ short), refl)
 
 returns-3 : tie.Need-returns-3
@@ -44,8 +45,8 @@ returns-3 c =
     let counted = c .before .before .before .wire-count .ensures .0 in
     let tests = c .before .before .before .before in
     let a = tests .before .before .before .args in
-    let room : packedLength (wireCount (a .bits)) ≤ length (now (a .out)) = omega arith in
-    let wrong : length (now (a .assignment)) ≡ 8 * wireCount (a .bits) → ⊥ =
+    let room : packedLength (wireCount (Record (a .bits))) ≤ length (now (a .out)) = omega arith in
+    let wrong : length (now (a .assignment)) ≡ 8 * wireCount (Record (a .bits)) → ⊥ =
     λ e. c .if3 .taken (e ∙ ap (λ m. 8 * m) (sym counted)) in
     (simp (le-ltb _ _ (tests .if1 .left), le-ltb _ _ room, ne-eqb _ _ wrong), refl)
 
@@ -66,8 +67,8 @@ returns-4 c =
     let counted = length-told .before .before .before .wire-count .ensures .0 in
     let tests = length-told .before .before .before .before in
     let a = tests .before .before .before .args in
-    let room : packedLength (wireCount (a .bits)) ≤ length (now (a .out)) = omega arith in
-    let long : length (now (a .assignment)) ≡ 8 * wireCount (a .bits) = length-told .if3 .left ∙ ap (λ m. 8 * m) counted in (
+    let room : packedLength (wireCount (Record (a .bits))) ≤ length (now (a .out)) = omega arith in
+    let long : length (now (a .assignment)) ≡ 8 * wireCount (Record (a .bits)) = length-told .if3 .left ∙ ap (λ m. 8 * m) counted in (
       simp (le-ltb _ _ (tests .if1 .left), le-ltb _ _ room, eq-eqb _ _ long)
           (sym (c .before .answer .given .1) ∙ asked .bits-in-all .ensures ∙ ap (bitsAnswer (now (a .assignment)) 0) counted),
       refl,
@@ -101,7 +102,7 @@ returns-5 c =
     let counted = length-told .before .before .before .wire-count .ensures .0 in
     let tests = length-told .before .before .before .before in
     let a = tests .before .before .before .args in
-    let wires : ℕ = wireCount (a .bits) in
+    let wires : ℕ = wireCount (Record (a .bits)) in
     let room : packedLength wires ≤ length (now (a .out)) = omega arith in
     let long : length (now (a .assignment)) ≡ 8 * wires = length-told .if3 .left ∙ ap (λ m. 8 * m) counted in (
       simp (le-ltb _ _ (tests .if1 .left), le-ltb _ _ room, eq-eqb _ _ long)

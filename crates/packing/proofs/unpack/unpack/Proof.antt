@@ -8,6 +8,7 @@ use lib.ListN.{length}
 use Rattle.assignment.proofs.Writes.{wrote-front, wrote-next}
 use Rattle.assignment.specs.Wrote.{Wrote}
 use Rattle.circuit.specs.Wires.{wireCount}
+use Rattle.circuit.specs.declared.circuits.Circuit.the-variants.{Record}
 use Rattle.encoding.specs.Bits.{bitOfBytes}
 use Rattle.encoding.specs.Packed.{packedLength, spareBits}
 use Rattle.packing.proofs.WordBytes.{one-over}
@@ -31,7 +32,7 @@ returns-2 : tie.Need-returns-2
 unfolding unpackAnswer
 returns-2 c =
     let a = c .before .before .before .before .before .args in
-    let short : length (now (a .out)) < 8 * wireCount (a .bits) = omega arith in
+    let short : length (now (a .out)) < 8 * wireCount (Record (a .bits)) = omega arith in
     (simp (le-ltb _ _ (c .before .before .if1 .left), lt-ltb _ _ short), refl)
 
 packed-length-requires : tie.Need-packed-length-requires
@@ -43,8 +44,8 @@ returns-3 c =
     let tests = c .before .before in
     let counted = tests .before .wire-count .ensures .0 in
     let a = tests .before .before .before .before .before .args in
-    let room : 8 * wireCount (a .bits) ≤ length (now (a .out)) = omega arith in
-    let wrong : length (now (a .packed)) ≡ packedLength (wireCount (a .bits)) → ⊥ =
+    let room : 8 * wireCount (Record (a .bits)) ≤ length (now (a .out)) = omega arith in
+    let wrong : length (now (a .packed)) ≡ packedLength (wireCount (Record (a .bits))) → ⊥ =
     λ e. c .if3 .taken (e ∙ ap packedLength (sym counted) ∙ sym (c .before .packed-length .ensures)) in
     (simp (le-ltb _ _ (tests .before .before .if1 .left), le-ltb _ _ room, ne-eqb _ _ wrong), refl)
 
@@ -57,7 +58,7 @@ returns-4 c =
     let tests = c .before .before in
     let counted = tests .before .before .before .wire-count .ensures .0 in
     let a = tests .before .before .before .before .before .before .before .args in
-    let wires : ℕ = wireCount (a .bits) in
+    let wires : ℕ = wireCount (Record (a .bits)) in
     let room : 8 * wires ≤ length (now (a .out)) = omega arith in
     let long : length (now (a .packed)) ≡ packedLength wires =
     tests .if3 .left ∙ tests .before .packed-length .ensures ∙ ap packedLength counted in
@@ -68,8 +69,8 @@ returns-4 c =
 put-entries-requires : tie.Need-put-entries-requires
 put-entries-requires c κs = search needs
 
-sub-t8 : tie.Need-sub-t8
-sub-t8 c = search needs
+sub-t9 : tie.Need-sub-t9
+sub-t9 c = search needs
 
 sub-bit-at : tie.Need-sub-bit-at
 sub-bit-at c = search needs
@@ -94,7 +95,7 @@ returns-5 c =
     let counted = tests .before .before .before .wire-count .ensures .0 in
     let a = tests .before .before .before .before .before .before .before .args in
     let p = now (a .packed) in
-    let wires : ℕ = wireCount (a .bits) in
+    let wires : ℕ = wireCount (Record (a .bits)) in
     let over : wires % 64 ≡ 1 = one-over (a .bits) in
     let room : 8 * wires ≤ length (now (a .out)) = omega arith in
     let long : length p ≡ packedLength wires = tests .if3 .left ∙ tests .before .packed-length .ensures ∙ ap packedLength counted in
@@ -122,7 +123,7 @@ unpack-spec =
     spare-bits-requires
     returns-4
     put-entries-requires
-    sub-t8
+    sub-t9
     sub-bit-at
     bit-at-requires
     put-entry-requires

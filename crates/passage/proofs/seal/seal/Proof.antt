@@ -6,6 +6,7 @@ use native.Mathlib.Omega.{arith}
 use borrow.Author.Needs.{needs}
 use lib.ListN.{length}
 use Rattle.circuit.specs.Wires.{wireCount}
+use Rattle.circuit.specs.declared.circuits.Circuit.the-variants.{Record}
 use Rattle.passage.proofs.Answers.{line-right}
 use Rattle.passage.proofs.Sealing.{assignment-bytes, assignment-short, digest-short, line-digested, line-produced, line-sealed, seal-refused}
 use Rattle.passage.specs.Read.{lineAnswer}
@@ -68,7 +69,7 @@ returns-4 c =
     let a = told .before .before .before .before .before .before .args in
     let s = Line told in
     let long = line-right s .0 (right told) .0 in
-    let room : 8 * wireCount lineBits ≤ length (a .assignment .now) = omega (arith, past .if2 .left, assignment-bytes) in
+    let room : 8 * wireCount (Record lineBits) ≤ length (a .assignment .now) = omega (arith, past .if2 .left, assignment-bytes) in
     let hashed = digested .digest .ensures .0 ∙ line-digested s _ long (tested .if1 .left) in
     let made = produced .produce .ensures .0 ∙ line-produced s _ long room in (
       made ∙ sym (line-sealed s _ _ (right told) (tested .if1 .left) room),

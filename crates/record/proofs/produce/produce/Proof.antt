@@ -8,6 +8,7 @@ use denote.Ref.{now}
 use lib.ListN.{length}
 use Rattle.assignment.proofs.Writes.{wrote-front}
 use Rattle.circuit.specs.Wires.{wireCount}
+use Rattle.circuit.specs.declared.circuits.Circuit.the-variants.{Record}
 use Rattle.record.specs.Produce.{assignmentOf}
 use Rattle.sm3.proofs.handed.Asked.{handed-done, handed-tests}
 use Rattle.record.proofs.produce.produce.Statement.{statement}
@@ -42,7 +43,7 @@ returns-2 c =
     let told = c .before .before in
     let asked = told .before .before in
     let a = asked .before .before .before .args in
-    let short : length (now (a .out)) < 8 * wireCount (a .bits) = omega arith in (
+    let short : length (now (a .out)) < 8 * wireCount (Record (a .bits)) = omega arith in (
       sym
           (handed-tests (a .bits) (now (a .bytes)) .passed _ (sym (asked .handed .ensures) ∙ told .enum-told .given .1)
           ∙ simp (lt-ltb _ _ short)),
@@ -67,7 +68,7 @@ returns-3 c =
     let told = room .before .before in
     let asked = told .before .before in
     let a = asked .before .before .before .args in
-    let fits : 8 * wireCount (a .bits) ≤ length (now (a .out)) = omega arith in (
+    let fits : 8 * wireCount (Record (a .bits)) ≤ length (now (a .out)) = omega arith in (
       sym
           (handed-tests (a .bits) (now (a .bytes)) .passed _ (sym (asked .handed .ensures) ∙ told .enum-told .given .1)
           ∙ simp (le-ltb _ _ fits)),

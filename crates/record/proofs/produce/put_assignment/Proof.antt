@@ -8,6 +8,7 @@ use Rattle.assignment.specs.Wrote.{Wrote}
 use Rattle.block.specs.BlockWires.{stateWires}
 use Rattle.block.specs.Wires.{wiresPerBlock}
 use Rattle.circuit.specs.Wires.{frameWires, wireCount, digestFirst, firstBlock, startFirst}
+use Rattle.circuit.specs.declared.circuits.Circuit.the-variants.{Record}
 use Rattle.encoding.specs.Bits.{bitOfBytes}
 use Rattle.record.specs.Layout.{wireOf}
 use Rattle.sm3.specs.Message.{blocks}
@@ -45,7 +46,7 @@ returns c =
     let p1 = p2 .before .before .before .before .before in
     let a = p1 .before .before .before .before .args in
     let n = a .bits in
-    let all : 1 + (256 + (256 + wiresPerBlock * blocks n)) ≡ wireCount n = omega arith in
+    let all : 1 + (256 + (256 + wiresPerBlock * blocks n)) ≡ wireCount (Record n) = omega arith in
     subst (λ k. Wrote 0 k (wireOf n (bitOfBytes (now (a .bytes)))) (now (a .out)) (p4 .put-entry .last .0)) all
     (wrote-before digestFirst refl
     (wrote-before startFirst refl
