@@ -1,6 +1,7 @@
 -- What the circuit of axles between two bounds appends to a record's (document 02, request 5).
-use mathlib.Core.Bool.{false, true}
+use mathlib.Core.Bool.{Bool, false, true, _&&_}
 use Prim.Native.Nat.{ℕ, _+_, _*_}
+use lib.Dec.{leb}
 use Rattle.block.specs.Wires.{wiresPerBlock}
 use Rattle.circuit.specs.Frame.{firstBlock}
 use Rattle.encoding.specs.Sequence.{beside}
@@ -13,6 +14,10 @@ use Rattle.forms.specs.declared.form.Form.{Form}
 -- "For a record of a passage's length": 63 bytes, of two blocks
 abbrev pub axleBits : ℕ
 axleBits = 504
+
+-- "with bounds from 2 to 99", the lower not "above the upper"
+unfoldable pub boundsInRange : ℕ → ℕ → Bool
+boundsInRange lower upper = leb 2 lower && (leb lower upper && leb upper 99)
 
 -- the first wires of the digit bytes, 17 and 18
 abbrev pub tensByte : ℕ

@@ -1,8 +1,7 @@
 // The rows that the circuit of axles between two bounds appends to a record's.
 ghost use mathlib.Core.Path.{_≡_};
 ghost use Prim.Native.Nat.{_<_, _≤_};
-ghost use Rattle.circuit.specs.Axles.{axleForm, axles, digitOf, highHalf};
-ghost use Rattle.forms.specs.Bounds.{Small};
+ghost use Rattle.circuit.specs.Axles.{axleForm, axles, boundsInRange, digitOf, highHalf};
 ghost use Rattle.forms.specs.Terms.{Fit};
 use forms::form::Digits;
 use forms::form::Form;
@@ -25,6 +24,19 @@ pub const UNITS_LEFT: u64 = 45573;
 pub const ABOVE_LOWER: u64 = 45577;
 
 pub const BELOW_UPPER: u64 = 45584;
+
+// Whether two bounds are from 2 to 99, the lower no greater than the upper.
+pub fn bounds_in_range(lower: u64, upper: u64) -> bool
+    ensures { λ r. ⌜ r ≡ boundsInRange lower upper ⌝ }
+{
+    if lower < 2 {
+        return false;
+    }
+    if upper < lower {
+        return false;
+    }
+    upper <= 99
+}
 
 // The digit of a byte: its low half.
 fn digit_of(byte: u64) -> Digits

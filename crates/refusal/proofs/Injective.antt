@@ -10,7 +10,7 @@ use Rattle.refusal.specs.Refusals.{refusalNumber, refusalValues}
 use Rattle.refusal.specs.declared.outcome.Outcome.{Outcome}
 use Rattle.refusal.specs.declared.outcome.Outcome.the-variants.{Done, Refused}
 use Rattle.refusal.specs.declared.outcome.Refusal.{Refusal}
-use Rattle.refusal.specs.declared.outcome.Refusal.the-variants.{LengthAboveLimit, RowOutOfRange, BufferTooShort, DigestNot32, WrongLength, WireZero, DigestWire, Unsatisfied, EntryNotBit, WrongPackedLength, SpareBit, WrongRecordLength, BitAfterRecord, LineNot63, WrongByte, LaneOrAxlesTooLow}
+use Rattle.refusal.specs.declared.outcome.Refusal.the-variants.{LengthAboveLimit, RowOutOfRange, BufferTooShort, DigestNot32, WrongLength, WireZero, DigestWire, Unsatisfied, EntryNotBit, WrongPackedLength, SpareBit, WrongRecordLength, BitAfterRecord, LineNot63, WrongByte, LaneOrAxlesTooLow, BoundsOutOfRange, NotInBand}
 
 -- what can be read back is equal where its numbers are
 pub injective : {A : Type 0} (f : A → ℕ) (g : ℕ → A) {a b : A} → g (f a) ≡ a → g (f b) ≡ b → f a ≡ f b → a ≡ b
@@ -37,7 +37,9 @@ refusalOfNumber n k =
     (cond (eqb n 13) WrongRecordLength
     (cond (eqb n 14) BitAfterRecord
     (cond (eqb n 15) LineNot63
-    (cond (eqb n 16) (WrongByte (record { 0 = k })) LaneOrAxlesTooLow))))))))))))))
+    (cond (eqb n 16) (WrongByte (record { 0 = k }))
+    (cond (eqb n 17) LaneOrAxlesTooLow
+    (cond (eqb n 18) BoundsOutOfRange NotInBand))))))))))))))))
 
 refusalBack : ℕ → Refusal
 refusalBack v = refusalOfNumber (v % 256) (v / 256)
@@ -70,6 +72,8 @@ refusal-back LineNot63 = refl
 refusal-back (WrongByte b) =
     named-back 16 (b .0) (packed (refusalNumber (WrongByte b)) (refusalValues (WrongByte b))) (omega arith) (omega arith)
 refusal-back LaneOrAxlesTooLow = refl
+refusal-back BoundsOutOfRange = refl
+refusal-back NotInBand = refl
 
 pub refusal-injective : (r s : Refusal)
     → packed (refusalNumber r) (refusalValues r) ≡ packed (refusalNumber s) (refusalValues s) → r ≡ s
@@ -94,6 +98,8 @@ refused BitAfterRecord e = omega arith
 refused LineNot63 e = omega arith
 refused (WrongByte b) e = omega arith
 refused LaneOrAxlesTooLow e = omega arith
+refused BoundsOutOfRange e = omega arith
+refused NotInBand e = omega arith
 
 pub outcome-injective : (a b : Outcome) → packedOutcome a ≡ packedOutcome b → a ≡ b
 outcome-injective Done Done e = refl

@@ -5,7 +5,7 @@ use Prim.Native.Nat.{ℕ}
 use Rattle.refusal.specs.declared.outcome.Outcome.{Outcome}
 use Rattle.refusal.specs.declared.outcome.Outcome.the-variants.{Done, Refused}
 use Rattle.refusal.specs.declared.outcome.Refusal.{Refusal}
-use Rattle.refusal.specs.declared.outcome.Refusal.the-variants.{LengthAboveLimit, RowOutOfRange, BufferTooShort, DigestNot32, WrongLength, WireZero, DigestWire, Unsatisfied, EntryNotBit, WrongPackedLength, SpareBit, WrongRecordLength, BitAfterRecord, LineNot63, WrongByte, LaneOrAxlesTooLow}
+use Rattle.refusal.specs.declared.outcome.Refusal.the-variants.{LengthAboveLimit, RowOutOfRange, BufferTooShort, DigestNot32, WrongLength, WireZero, DigestWire, Unsatisfied, EntryNotBit, WrongPackedLength, SpareBit, WrongRecordLength, BitAfterRecord, LineNot63, WrongByte, LaneOrAxlesTooLow, BoundsOutOfRange, NotInBand}
 
 abbrev pub refusalNumber : Refusal → ℕ
 -- "2. The record length is above" the limit, from document 02's request 2 on 8,127 bits
@@ -40,6 +40,10 @@ refusalNumber LineNot63 = 15
 refusalNumber (WrongByte b) = 16
 -- "17, lane 000 or axles below 02"
 refusalNumber LaneOrAxlesTooLow = 17
+-- document 02, request 5: "18, a bound outside 2 to 99 or the lower above the upper"
+refusalNumber BoundsOutOfRange = 18
+-- "19, to the producer, a record that does not meet this": its two bytes are digits, and the axles lie within the bounds
+refusalNumber NotInBand = 19
 
 abbrev pub refusalValues : Refusal → List ℕ
 refusalValues LengthAboveLimit = []
@@ -61,6 +65,8 @@ refusalValues LineNot63 = []
 -- "lowest byte returned, from 0"
 refusalValues (WrongByte b) = b .0 ∷ []
 refusalValues LaneOrAxlesTooLow = []
+refusalValues BoundsOutOfRange = []
+refusalValues NotInBand = []
 
 -- the answer of an operation that hands nothing back: 0 for no refusal
 abbrev pub outcomeNumber : Outcome → ℕ

@@ -40,6 +40,10 @@ pub enum Refusal {
     WrongByte(ByteNumber),
     // 17: lane 0 or fewer than 2 axles.
     LaneOrAxlesTooLow,
+    // 18: a bound on axles outside 2 to 99, or the lower above the upper.
+    BoundsOutOfRange,
+    // 19: the record's axles are no digits or lie outside the bounds.
+    NotInBand,
 }
 
 // The answer of an operation that hands nothing back: it is done, or it is refused and no lent byte is altered.
@@ -69,5 +73,7 @@ pub fn number_of(refusal: Refusal) -> u64
         Refusal::LineNot63 => 15,
         Refusal::WrongByte(_) => 16,
         Refusal::LaneOrAxlesTooLow => 17,
+        Refusal::BoundsOutOfRange => 18,
+        Refusal::NotInBand => 19,
     }
 }

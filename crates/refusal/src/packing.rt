@@ -28,6 +28,8 @@ fn value_of(refusal: Refusal) -> u64
         Refusal::LineNot63 => 0,
         Refusal::WrongByte(byte) => byte.0,
         Refusal::LaneOrAxlesTooLow => 0,
+        Refusal::BoundsOutOfRange => 0,
+        Refusal::NotInBand => 0,
     }
 }
 

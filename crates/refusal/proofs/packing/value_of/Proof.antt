@@ -1,5 +1,5 @@
 -- Each arm is told which refusal it is at; three of them have a value.
-use mathlib.Core.Path.{ap}
+use mathlib.Core.Path.{ap, sym}
 use native.Mathlib.Omega.{arith}
 use borrow.Author.Needs.{needs}
 use Rattle.refusal.specs.Packing.{above}
@@ -55,26 +55,32 @@ enum-known-refusal-3 c = search needs
 enum-told-13 : tie.Need-enum-told-13
 enum-told-13 c = search needs
 
+enum-told-14 : tie.Need-enum-told-14
+enum-told-14 c = search needs
+
+enum-told-15 : tie.Need-enum-told-15
+enum-told-15 c = search needs
+
 returns : tie.Need-returns
-returns c = search needs
+returns c = sym (ap (λ r. above (refusalValues r)) (c .enum-told .given .1))
 
 returns-2 : tie.Need-returns-2
-returns-2 c = search needs
+returns-2 c = sym (ap (λ r. above (refusalValues r)) (c .enum-told2 .given .1))
 
 returns-3 : tie.Need-returns-3
-returns-3 c = search needs
+returns-3 c = sym (ap (λ r. above (refusalValues r)) (c .enum-told3 .given .1))
 
 returns-4 : tie.Need-returns-4
-returns-4 c = search needs
+returns-4 c = sym (ap (λ r. above (refusalValues r)) (c .enum-told4 .given .1))
 
 returns-5 : tie.Need-returns-5
-returns-5 c = search needs
+returns-5 c = sym (ap (λ r. above (refusalValues r)) (c .enum-told5 .given .1))
 
 returns-6 : tie.Need-returns-6
-returns-6 c = search needs
+returns-6 c = sym (ap (λ r. above (refusalValues r)) (c .enum-told6 .given .1))
 
 returns-7 : tie.Need-returns-7
-returns-7 c = search needs
+returns-7 c = sym (ap (λ r. above (refusalValues r)) (c .enum-told7 .given .1))
 
 returns-8 : tie.Need-returns-8
 returns-8 c = omega (arith, ap (λ r. above (refusalValues r)) (c .before .refusal .given .1))
@@ -83,25 +89,31 @@ returns-9 : tie.Need-returns-9
 returns-9 c = omega (arith, ap (λ r. above (refusalValues r)) (c .before .refusal2 .given .1))
 
 returns-10 : tie.Need-returns-10
-returns-10 c = search needs
+returns-10 c = sym (ap (λ r. above (refusalValues r)) (c .enum-told8 .given .1))
 
 returns-11 : tie.Need-returns-11
-returns-11 c = search needs
+returns-11 c = sym (ap (λ r. above (refusalValues r)) (c .enum-told9 .given .1))
 
 returns-12 : tie.Need-returns-12
-returns-12 c = search needs
+returns-12 c = sym (ap (λ r. above (refusalValues r)) (c .enum-told10 .given .1))
 
 returns-13 : tie.Need-returns-13
-returns-13 c = search needs
+returns-13 c = sym (ap (λ r. above (refusalValues r)) (c .enum-told11 .given .1))
 
 returns-14 : tie.Need-returns-14
-returns-14 c = search needs
+returns-14 c = sym (ap (λ r. above (refusalValues r)) (c .enum-told12 .given .1))
 
 returns-15 : tie.Need-returns-15
 returns-15 c = omega (arith, ap (λ r. above (refusalValues r)) (c .before .refusal3 .given .1))
 
 returns-16 : tie.Need-returns-16
-returns-16 c = search needs
+returns-16 c = sym (ap (λ r. above (refusalValues r)) (c .enum-told13 .given .1))
+
+returns-17 : tie.Need-returns-17
+returns-17 c = sym (ap (λ r. above (refusalValues r)) (c .enum-told14 .given .1))
+
+returns-18 : tie.Need-returns-18
+returns-18 c = sym (ap (λ r. above (refusalValues r)) (c .enum-told15 .given .1))
 
 pub value-of-spec : {M : Type 1} → statement M
 value-of-spec =
@@ -123,6 +135,8 @@ value-of-spec =
     enum-told-12
     enum-known-refusal-3
     enum-told-13
+    enum-told-14
+    enum-told-15
     returns
     returns-2
     returns-3
@@ -138,4 +152,6 @@ value-of-spec =
     returns-13
     returns-14
     returns-15
-    returns-16)
+    returns-16
+    returns-17
+    returns-18)
