@@ -68,27 +68,28 @@ fn appended_row(lower: u64, upper: u64, number: u32) -> Plain {
     plain(rows::appended(bounds(lower, upper)).row(RowNumber(number - APPENDED)))
 }
 
+/// Terms of such weights on wires from one on.
+fn terms(first: u32, weights: &[i64]) -> Vec<(u32, u64)> {
+    let coefficient = |&weight: &i64| match weight {
+        0.. => weight as u64,
+        _ => minus(weight.unsigned_abs()),
+    };
+    (first..).zip(weights.iter().map(coefficient)).collect()
+}
+
+/// A sum row: its terms part by part, times 1 is 0.
+fn sum_row(parts: [Vec<(u32, u64)>; 4]) -> Plain {
+    [parts.concat(), vec![(0, 1)], vec![]]
+}
+
 #[test]
 fn the_worked_row_of_the_layout() {
-    let a = vec![
-        (0, minus(2)),
-        (653, 80),
-        (654, 40),
-        (655, 20),
-        (656, 10),
-        (661, 8),
-        (662, 4),
-        (663, 2),
-        (664, 1),
-        (45_577, minus(64)),
-        (45_578, minus(32)),
-        (45_579, minus(16)),
-        (45_580, minus(8)),
-        (45_581, minus(4)),
-        (45_582, minus(2)),
-        (45_583, minus(1)),
-    ];
-    let expected = [a, vec![(0, 1)], vec![]];
+    let expected = sum_row([
+        vec![(0, minus(2))],
+        terms(653, &[80, 40, 20, 10]),
+        terms(661, &[8, 4, 2, 1]),
+        terms(45_577, &[-64, -32, -16, -8, -4, -2, -1]),
+    ]);
     assert_eq!(appended_row(2, 5, 65_177), expected);
     let all = rows::all(bounds(2, 5));
     assert_eq!(plain(all.row(RowNumber(65_177))), expected);
@@ -96,48 +97,19 @@ fn the_worked_row_of_the_layout() {
 
 #[test]
 fn the_other_sum_rows() {
-    let one = vec![(0, 1)];
-    let tens = vec![
-        (0, 9),
-        (653, minus(8)),
-        (654, minus(4)),
-        (655, minus(2)),
-        (656, minus(1)),
-        (45_569, minus(8)),
-        (45_570, minus(4)),
-        (45_571, minus(2)),
-        (45_572, minus(1)),
-    ];
-    assert_eq!(
-        appended_row(2, 99, 65_164),
-        [tens.clone(), one.clone(), vec![]]
-    );
-    let shifted = |&(wire, c): &(u32, u64)| match wire {
-        0 => (0, c),
-        653..=656 => (wire + 8, c),
-        _ => (wire + 4, c),
-    };
-    let units = tens.iter().map(shifted).collect();
-    assert_eq!(appended_row(2, 99, 65_169), [units, one.clone(), vec![]]);
-    let upper = vec![
-        (0, 99),
-        (653, minus(80)),
-        (654, minus(40)),
-        (655, minus(20)),
-        (656, minus(10)),
-        (661, minus(8)),
-        (662, minus(4)),
-        (663, minus(2)),
-        (664, minus(1)),
-        (45_584, minus(64)),
-        (45_585, minus(32)),
-        (45_586, minus(16)),
-        (45_587, minus(8)),
-        (45_588, minus(4)),
-        (45_589, minus(2)),
-        (45_590, minus(1)),
-    ];
-    assert_eq!(appended_row(2, 99, 65_185), [upper, one, vec![]]);
+    let bits = [-8, -4, -2, -1];
+    let nine = || vec![(0, 9)];
+    let tens = sum_row([nine(), terms(653, &bits), terms(45_569, &bits), vec![]]);
+    assert_eq!(appended_row(2, 99, 65_164), tens);
+    let units = sum_row([nine(), terms(661, &bits), terms(45_573, &bits), vec![]]);
+    assert_eq!(appended_row(2, 99, 65_169), units);
+    let upper = sum_row([
+        vec![(0, 99)],
+        terms(653, &[-80, -40, -20, -10]),
+        terms(661, &bits),
+        terms(45_584, &[-64, -32, -16, -8, -4, -2, -1]),
+    ]);
+    assert_eq!(appended_row(2, 99, 65_185), upper);
 }
 
 #[test]
