@@ -8,7 +8,7 @@ use judge::field;
 use super::bounds::all_pairs;
 use super::calls::{Room, What};
 use super::claims::{
-    appended_answer, bits_modulo, bounds, digits, fill, record, right_entries, some_axles,
+    appended_answer, bits_modulo, bounds, digits, fill, numbers, record, right_entries, some_axles,
     some_pair, unfilled, unsatisfied, NUMBERS, WIRES,
 };
 use crate::answers;
@@ -113,18 +113,12 @@ impl Stage {
     /// And by the check, with bits that write the four numbers modulo 2^4 and
     /// 2^7: the number that is negative has none.
     fn outside_forged(&mut self, calls: &mut Calls, pair: Pair) {
-        let [lower, upper] = pair.map(|bound| bound as i64);
-        let (axles, [tens, units]) = (i64::from(self.axles), [self.axles / 10, self.axles % 10]);
-        let numbers = [
-            9 - i64::from(tens),
-            9 - i64::from(units),
-            axles - lower,
-            upper - axles,
-        ];
-        self.fill(&bits_modulo(numbers));
+        let axles = self.axles;
+        let bits = bits_modulo(numbers(pair, [axles / 10, axles % 10]));
+        self.fill(&bits);
         let judged = appended_answer(pair, &self.entries);
-        let number = &NUMBERS[if axles < lower { 2 } else { 3 }];
-        let known = Err(unsatisfied(number.sum_row()));
+        let below = u64::from(axles) < pair[0];
+        let known = Err(unsatisfied(NUMBERS[if below { 2 } else { 3 }].sum_row()));
         calls.must_answer(
             answers::plain(known),
             answers::plain(judged),
@@ -147,13 +141,14 @@ fn at_an_end([lower, upper]: Pair, axles: u64) -> bool {
 pub fn axles(calls: &mut Calls, axles: u8, every_pair: bool) {
     let mut stage = Stage::new(calls, axles);
     let number = u64::from(axles);
+    let forged_one_in = if every_pair { 4 } else { 20 };
     for pair in all_pairs().filter(|&pair| every_pair || at_an_end(pair, number)) {
         let [lower, upper] = pair;
         if (lower..=upper).contains(&number) {
             stage.within(calls, pair);
         } else {
             stage.outside(calls, pair);
-            if every_pair && calls.random.one_in(4) || calls.random.one_in(20) {
+            if calls.random.one_in(forged_one_in) {
                 stage.outside_forged(calls, pair);
             }
         }

@@ -113,6 +113,19 @@ pub fn right_entries(pair: Pair, axles: u8) -> Vec<u64> {
     wires.map(u64::from).to_vec()
 }
 
+/// The four numbers of two digits under these bounds, in whole numbers; a digit
+/// is what its byte's low half holds, so that it may be above 9.
+pub fn numbers([lower, upper]: Pair, digits: [u8; 2]) -> [i64; 4] {
+    let [tens, units] = digits.map(i64::from);
+    let axles = 10 * tens + units;
+    [
+        9 - tens,
+        9 - units,
+        axles - lower as i64,
+        upper as i64 - axles,
+    ]
+}
+
 /// The bits of the four numbers, each without what is too great for them.
 pub fn bits_modulo(numbers: [i64; 4]) -> Vec<u64> {
     let bits = |(value, number): (i64, &Number)| {

@@ -5,7 +5,8 @@ use host::axles::Pair;
 
 use super::calls::Room;
 use super::claims::{
-    bits_modulo, claim_answer, fill, record, some_pair, unfilled, unsatisfied, NUMBERS, ROWS,
+    bits_modulo, claim_answer, fill, numbers, record, some_pair, unfilled, unsatisfied, NUMBERS,
+    ROWS,
 };
 use crate::answers;
 use crate::calls::Calls;
@@ -84,10 +85,7 @@ fn failing_row(bytes: [u8; 2], numbers: [i64; 4]) -> Option<u32> {
 /// The check of a record with any two bytes, all its wires right.
 fn forged(calls: &mut Calls, pair: Pair, record: &[u8]) {
     let bytes = [record[17], record[18]];
-    let [tens, units] = bytes.map(|byte| i64::from(byte & 15));
-    let [lower, upper] = pair.map(|bound| bound as i64);
-    let axles = 10 * tens + units;
-    let numbers = [9 - tens, 9 - units, axles - lower, upper - axles];
+    let numbers = numbers(pair, bytes.map(|byte| byte & 15));
     let mut claim = unfilled(record);
     fill(&mut claim, &bits_modulo(numbers));
     claim.note = format!("the bytes {bytes:?} with their digits' bits");

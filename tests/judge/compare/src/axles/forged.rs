@@ -5,23 +5,16 @@ use host::axles::Pair;
 use judge::field::{self, P};
 
 use super::claims::{
-    bits_modulo, claim_answer, digits, fill, record, some_pair, unfilled, unsatisfied, Number,
-    NUMBERS, WIRES,
+    bits_modulo, claim_answer, digits, fill, numbers, record, some_pair, unfilled, unsatisfied,
+    Number, NUMBERS, WIRES,
 };
 use crate::answers;
 use crate::calls::Calls;
 use crate::claim::Claim;
 
 /// The four numbers of so many axles under these bounds.
-fn numbers([lower, upper]: Pair, axles: u8) -> [i64; 4] {
-    let [tens, units] = [axles / 10, axles % 10].map(i64::from);
-    let axles = i64::from(axles);
-    [
-        9 - tens,
-        9 - units,
-        axles - lower as i64,
-        upper as i64 - axles,
-    ]
+fn numbers_of(pair: Pair, axles: u8) -> [i64; 4] {
+    numbers(pair, [axles / 10, axles % 10])
 }
 
 /// A claim of any number of axles, within the bounds or not, whose bits write
@@ -36,7 +29,7 @@ impl Forgery {
     fn new(calls: &mut Calls, axles: u8) -> Forgery {
         let pair = some_pair(&mut calls.random);
         let mut claim = unfilled(&record(digits(axles), &mut calls.random));
-        fill(&mut claim, &bits_modulo(numbers(pair, axles)));
+        fill(&mut claim, &bits_modulo(numbers_of(pair, axles)));
         Forgery { pair, axles, claim }
     }
 
@@ -64,7 +57,7 @@ fn whole_in_one_wire(calls: &mut Calls, axles: u8, which: usize) {
     let number = &NUMBERS[which];
     for place in 0..number.bits {
         let mut forgery = Forgery::new(calls, axles);
-        let values = numbers(forgery.pair, axles);
+        let values = numbers_of(forgery.pair, axles);
         let entry = number.over_weight(field::from_signed(values[which]), place);
         let mut entries = vec![0; number.bits];
         entries[place] = entry;
@@ -83,7 +76,7 @@ fn whole_in_one_wire(calls: &mut Calls, axles: u8, which: usize) {
 fn split_in_two(calls: &mut Calls, axles: u8, which: usize) {
     let number = &NUMBERS[which];
     let mut forgery = Forgery::new(calls, axles);
-    let value = field::from_signed(numbers(forgery.pair, axles)[which]);
+    let value = field::from_signed(numbers_of(forgery.pair, axles)[which]);
     let one = calls.random.below(number.bits);
     let other = (one + calls.random.range(1, number.bits)) % number.bits;
     let any = calls.random.field();
