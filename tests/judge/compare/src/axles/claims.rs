@@ -53,7 +53,7 @@ impl Number {
         ROWS + self.row + place as u32
     }
 
-    /// 2 to the power of that place's weight, divided by, modulo p: 2^61 is 1.
+    /// A value divided by what that place weighs, modulo p, where 2^61 is 1.
     pub fn over_weight(&self, value: u64, place: usize) -> u64 {
         let weight = self.bits - 1 - place;
         field::multiply(value, (1 << (61 - weight)) % P)
@@ -161,4 +161,44 @@ pub fn claim_answer(pair: Pair, claim: &Claim) -> Result<(), Refusal> {
 
 pub fn unsatisfied(row: u32) -> Refusal {
     Refusal::Unsatisfied(RowNumber(row))
+}
+
+#[cfg(test)]
+mod tests {
+    use super::*;
+
+    #[test]
+    fn numbers_stand_at_their_wires_and_rows() {
+        let sums = NUMBERS.each_ref().map(Number::sum_row);
+        assert_eq!(sums, [65_164, 65_169, 65_177, 65_185]);
+        let wires = NUMBERS.each_ref().map(|number| WIRES + number.wire);
+        assert_eq!(wires, [45_569, 45_573, 45_577, 45_584]);
+        assert_eq!(NUMBERS[3].bit_row(6), 65_184);
+    }
+
+    #[test]
+    fn a_value_over_its_weight_weighs_the_value() {
+        for number in &NUMBERS {
+            for place in 0..number.bits {
+                let weight = 1 << (number.bits - 1 - place);
+                let over = number.over_weight(P - 3, place);
+                assert_eq!(field::multiply(over, weight), P - 3);
+            }
+        }
+    }
+
+    #[test]
+    fn a_filled_claim_is_what_the_producer_writes() {
+        let mut random = Random::new(1, 0);
+        for (pair, axles) in [([2, 99], 2), ([2, 99], 99), ([30, 30], 30)] {
+            let record = record(digits(axles), &mut random);
+            let mut claim = unfilled(&record);
+            fill(&mut claim, &right_entries(pair, axles));
+            let mut written = vec![0; axles::assignment_bytes()];
+            axles::produce(pair[0], pair[1], &record, &mut written).unwrap();
+            assert!(claim.assignment == written);
+            let bits = bits_modulo(numbers(pair, [axles / 10, axles % 10]));
+            assert_eq!(bits, right_entries(pair, axles));
+        }
+    }
 }

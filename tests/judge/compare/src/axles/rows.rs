@@ -25,13 +25,20 @@ pub fn appended(calls: &mut Calls, lowers: Range<u64>) {
     }
 }
 
-/// So many rows at random under random bounds.
+/// The first and last rows of every part: start words, the blocks with their
+/// bits, the digest, what is appended.
+const ENDS: [u64; 14] = [
+    0, 255, 256, 759, 760, 767, 768, 32_575, 32_576, 33_087, 33_088, 64_895, 64_896, 65_151,
+];
+
+/// These rows and so many at random, each under random bounds.
 pub fn sampled(calls: &mut Calls, count: usize) {
     let mut table = rows::all(bounds([2, 99]));
-    for _ in 0..count {
+    let any = |calls: &mut Calls| calls.random.below(row_count()) as u64;
+    for number in 0..ENDS.len() + count {
         let pair = some_pair(&mut calls.random);
         rows::rebind(&mut table, bounds(pair));
-        let row = calls.random.below(row_count()) as u64;
+        let row = ENDS.get(number).copied().unwrap_or_else(|| any(calls));
         let out_len = enough(calls, ROW_BYTES);
         calls.axles_row(pair, row, out_len, |buffer| row_with(&table, row, buffer));
     }
