@@ -165,6 +165,10 @@ fn report(full: bool, programs: &Programs, seed: u64, threads: usize, only: &str
     println!("{form} comparison, seed {seed}, {threads} threads");
     let begin = Instant::now();
     let jobs = plan::jobs(&amounts, seed, programs);
+    if !jobs.iter().any(|job| job.name.contains(only)) {
+        println!("no job has '{only}' in its name");
+        return false;
+    }
     let tally = compare(&jobs, seed, threads, only);
     println!("{tally}");
     for difference in tally.differences.iter().take(TOLD) {
