@@ -1,15 +1,17 @@
 #!/bin/sh
-# Compares libsm3rows.a, libpassage_c.a and the programs `rows`, `steps` and `packed` with the judge, and the digest with
-# OpenSSL's too.
+# Compares libsm3rows.a, libpassage_c.a and the programs `rows`, `steps`, `packed`, `axle_rows` and `axle_steps` with the
+# judge, and the digest with OpenSSL's too.
 #
 #   tests/judge/run.sh [--short] [--seed N]      for the gate: a minute at most on two cores
 #   tests/judge/run.sh --full [--seed N]
+#   tests/judge/run.sh --only axles:             the jobs alone that have this in their names; with --full too
 #   tests/judge/run.sh --soak MINUTES [--seed N]
 #   tests/judge/run.sh --tests                   the judge's own tests and those of the comparison
 #
 # SM3ROWS_LIB and PASSAGE_LIB name the archives; without them, they are the ones that `rt staticlib sm3rows` and
-# `rt staticlib passage_c` write. ROWS_PROGRAM, STEPS_PROGRAM and PACKED_PROGRAM name the programs; without them, they are
-# the ones that `rt check rows steps packed` writes. All five must be there.
+# `rt staticlib passage_c` write. ROWS_PROGRAM, STEPS_PROGRAM, PACKED_PROGRAM, AXLE_ROWS_PROGRAM and AXLE_STEPS_PROGRAM name
+# the programs; without them, they are the ones that `rt check rows steps packed axle_rows axle_steps` writes. All seven must
+# be there.
 set -eu
 
 # present FILE COMMAND: the file is there; the command would write it.
@@ -23,11 +25,15 @@ PASSAGE_LIB=${PASSAGE_LIB:-$root/target/staticlib/libpassage_c.a}
 rows=${ROWS_PROGRAM:-$root/target/bin/rows}
 steps=${STEPS_PROGRAM:-$root/target/bin/steps}
 packed=${PACKED_PROGRAM:-$root/target/bin/packed}
+axle_rows=${AXLE_ROWS_PROGRAM:-$root/target/bin/axle_rows}
+axle_steps=${AXLE_STEPS_PROGRAM:-$root/target/bin/axle_steps}
 present "$SM3ROWS_LIB" "rt staticlib sm3rows"
 present "$PASSAGE_LIB" "rt staticlib passage_c"
 present "$rows" "rt check rows"
 present "$steps" "rt check steps"
 present "$packed" "rt check packed"
+present "$axle_rows" "rt check axle_rows"
+present "$axle_steps" "rt check axle_steps"
 export SM3ROWS_LIB PASSAGE_LIB
 export CARGO_TARGET_DIR="$root/target/judge"
 
@@ -46,4 +52,5 @@ case " $* " in
 *" --full "* | *" --soak "*) limit=7200 ;;
 *) limit=300 ;;
 esac
-exec timeout "$limit" "$CARGO_TARGET_DIR/release/compare" --rows "$rows" --steps "$steps" --packed "$packed" "$@"
+exec timeout "$limit" "$CARGO_TARGET_DIR/release/compare" --rows "$rows" --steps "$steps" --packed "$packed" \
+    --axle-rows "$axle_rows" --axle-steps "$axle_steps" "$@"

@@ -4,7 +4,7 @@
 use crate::bits::bit;
 use crate::field;
 use crate::forms::{Row, RowNumber, RowTable, Term};
-use crate::length::Length;
+use crate::length::{right_assignment, Length};
 use crate::refusal::Refusal;
 use crate::rows;
 
@@ -30,11 +30,11 @@ fn lowest_unsatisfied(table: &RowTable, entries: &[u64]) -> Option<RowNumber> {
 }
 
 /// Refusals 5 and 6: the two byte lengths.
-fn check_sizes(length: Length, assignment: &[u8], digest: &[u8]) -> Result<(), Refusal> {
+pub(crate) fn check_sizes(wires: usize, assignment: &[u8], digest: &[u8]) -> Result<(), Refusal> {
     if digest.len() != 32 {
         return Err(Refusal::DigestBytes);
     }
-    length.right_assignment(assignment)
+    right_assignment(wires, assignment)
 }
 
 /// Refusals 7 and 8: wire 0, then "Wires 1 to 256: digest".
@@ -56,7 +56,17 @@ pub fn check_with(
     assignment: &[u8],
     digest: &[u8],
 ) -> Result<(), Refusal> {
-    check_sizes(length, assignment, digest)?;
+    check_circuit(table, length.wires(), assignment, digest)
+}
+
+/// Refusals 5 to 9 for any circuit, by its rows and by how many wires it has.
+pub(crate) fn check_circuit(
+    table: &RowTable,
+    wires: usize,
+    assignment: &[u8],
+    digest: &[u8],
+) -> Result<(), Refusal> {
+    check_sizes(wires, assignment, digest)?;
     let entries = field::read_entries(assignment);
     check_digest_wires(&entries, digest)?;
     match lowest_unsatisfied(table, &entries) {
@@ -70,6 +80,6 @@ pub fn check_with(
 pub fn check(length: u64, assignment: &[u8], digest: &[u8]) -> Result<(), Refusal> {
     let length = Length::new(length)?;
     // Sizes first, so that a wrong size is refused before any row is built.
-    check_sizes(length, assignment, digest)?;
+    check_sizes(length.wires(), assignment, digest)?;
     check_with(&rows::rows(length), length, assignment, digest)
 }

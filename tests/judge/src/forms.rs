@@ -40,7 +40,7 @@ pub const ONE: Wire = Wire(0);
 pub type Word = [Wire; 32];
 
 /// A wire with a small whole coefficient, as the equations write it.
-type Weighted = (Wire, i64);
+pub type Weighted = (Wire, i64);
 
 /// Rows in order. All terms lie in one list; a row remembers where each of
 /// its three sums ends, and begins where the row before it ended.
@@ -64,6 +64,13 @@ impl RowTable {
     /// All rows with their numbers, from the lowest.
     pub fn iter(&self) -> impl Iterator<Item = (RowNumber, Row<'_>)> {
         (0..self.count()).map(|index| (RowNumber(index as u32), self.at(index)))
+    }
+
+    /// Drops all rows but so many of the first.
+    pub fn truncate(&mut self, count: usize) {
+        self.ends.truncate(count);
+        let end = self.ends.last().map_or(0, |ends| ends[2]);
+        self.terms.truncate(end);
     }
 
     fn at(&self, index: usize) -> Row<'_> {
@@ -179,15 +186,27 @@ impl RowTable {
         self.push(&sum, &[(ONE, 1)], &[]);
     }
 
+    /// A number of so many bits, which is worth that sum: "its bit rows and a
+    /// sum row of value minus bits".
+    pub fn number(&mut self, value: &[Weighted], bits: &[Wire]) {
+        for &w in bits {
+            self.bit(w);
+        }
+        let sum: Vec<Weighted> = value.iter().copied().chain(weighted(bits, -1)).collect();
+        self.push(&sum, &[(ONE, 1)], &[]);
+    }
+
     /// The closing rows: "(digest wire - last result wire) × 1 = 0".
     pub fn same(&mut self, digest: Wire, result: Wire) {
         self.push(&[(digest, 1), (result, -1)], &[(ONE, 1)], &[]);
     }
 }
 
-/// A word's wires with the weights of its bits, 2^31 first, times a sign.
-fn weighted(word: &Word, sign: i64) -> impl Iterator<Item = Weighted> + '_ {
-    word.iter()
-        .enumerate()
-        .map(move |(position, &w)| (w, sign << (31 - position)))
+/// A number's wires, "highest bit first", with the weights of its bits, times a
+/// factor: a word's first wire weighs 2^31.
+pub fn weighted(bits: &[Wire], factor: i64) -> impl Iterator<Item = Weighted> + '_ {
+    let places = (0..bits.len()).rev();
+    bits.iter()
+        .zip(places)
+        .map(move |(&w, place)| (w, factor << place))
 }

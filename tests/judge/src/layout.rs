@@ -76,7 +76,12 @@ pub fn wires(record: &Record) -> Vec<u8> {
 /// "8 bytes a wire, least byte first"; "our producer writes every entry as
 /// the number 0 or 1". The buffer is long enough; bytes past them stay.
 pub fn write_assignment(record: &Record, buffer: &mut [u8]) {
-    for (entry, wire) in buffer.chunks_exact_mut(8).zip(wires(record)) {
+    write_wires(&wires(record), buffer);
+}
+
+/// Wires of any circuit, into a buffer that is long enough.
+pub(crate) fn write_wires(wires: &[u8], buffer: &mut [u8]) {
+    for (entry, &wire) in buffer.chunks_exact_mut(8).zip(wires) {
         entry.copy_from_slice(&u64::from(wire).to_le_bytes());
     }
 }

@@ -52,12 +52,17 @@ impl Length {
         self.wires().div_ceil(8)
     }
 
-    /// Refusal 6: "An assignment of 8-byte entries handed over to be read is
-    /// not exactly 8 × wires bytes."
+    /// Refusal 6 for a record of this length.
     pub fn right_assignment(self, assignment: &[u8]) -> Result<(), Refusal> {
-        if assignment.len() != self.assignment_bytes() {
-            return Err(Refusal::AssignmentBytes);
-        }
-        Ok(())
+        right_assignment(self.wires(), assignment)
     }
+}
+
+/// Refusal 6: "An assignment of 8-byte entries handed over to be read is not
+/// exactly 8 × wires bytes."
+pub(crate) fn right_assignment(wires: usize, assignment: &[u8]) -> Result<(), Refusal> {
+    if assignment.len() != 8 * wires {
+        return Err(Refusal::AssignmentBytes);
+    }
+    Ok(())
 }

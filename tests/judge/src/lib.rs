@@ -1,10 +1,11 @@
 //! An outside judge for the paper "SM3 record rows over the prime 2^61 - 1".
 //!
-//! Everything here was written from that paper alone and from the first three of
-//! its change requests, "Packed assignments", "Lengths in bits" and "Passage
-//! records", but `steps`, whose program has its format from docs/STEPS.md.
-//! Sentences of the papers are quoted in the comments beside the code that
-//! follows them.
+//! Everything here was written from that paper alone and from the first five of
+//! its change requests, "Packed assignments", "Lengths in bits", "Passage
+//! records", "Sealing in one pass", which asks for no other answer, and "Axles
+//! between two bounds"; but the programs `steps`, `axle_rows` and `axle_steps`
+//! have their formats from docs/STEPS.md. Sentences of the papers are quoted in
+//! the comments beside the code that follows them.
 //!
 //! * `sm3`: the hash, and every word it computes on the way ("SM3 as used").
 //! * `length`: lengths in range and the counts of blocks, wires and rows.
@@ -20,11 +21,14 @@
 //! * `listing`: the input line and the output of the program `rows`.
 //! * `steps`: the output of the program `steps`, which step a row stands for.
 //! * `passage`: the lines of the passage product: read, write, seal, check.
-//! * `refusal`: the seventeen refusals. `field`: numbers modulo p. `bits`: the
+//! * `axles`: the circuit of axles between two bounds: its wires, rows, produce
+//!   and check, and its two programs.
+//! * `refusal`: the nineteen refusals. `field`: numbers modulo p. `bits`: the
 //!   bits of bytes.
 
 #![forbid(unsafe_code)]
 
+pub mod axles;
 pub mod bits;
 pub mod check;
 pub mod field;

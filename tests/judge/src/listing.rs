@@ -1,17 +1,11 @@
 //! The program `rows`: its input line and "What `rows` prints".
 
-use crate::forms::{Row, RowNumber, Term};
+use std::ops::Range;
+
+use crate::forms::{Row, RowNumber, RowTable, Term};
 use crate::length::Length;
 use crate::refusal::Refusal;
 use crate::rows;
-
-/// What a right line asks for.
-#[derive(Clone, Copy, Debug, PartialEq, Eq)]
-pub struct Request {
-    pub length: u64,
-    pub first: u64,
-    pub how_many: u64,
-}
 
 /// One "decimal number of 1 to 9 digits, without leading zeros". The number
 /// 0 is the one digit 0.
@@ -28,37 +22,33 @@ pub(crate) fn number(field: &[u8]) -> Option<u64> {
     )
 }
 
-/// "Three decimal numbers, parted by commas, ended by one line feed and
-/// nothing after." The input is all of standard input.
-fn parse_line(input: &[u8]) -> Option<Request> {
+/// So many "decimal numbers, parted by commas, ended by one line feed and
+/// nothing after". The input is all of standard input.
+fn parse_line<const COUNT: usize>(input: &[u8]) -> Option<[u64; COUNT]> {
     let line = input.strip_suffix(b"\n")?;
-    let mut fields = line.split(|&byte| byte == b',');
-    let length = number(fields.next()?)?;
-    let first = number(fields.next()?)?;
-    let how_many = number(fields.next()?)?;
-    if fields.next().is_some() {
-        return None;
-    }
-    Some(Request {
-        length,
-        first,
-        how_many,
-    })
+    let fields = line.split(|&byte| byte == b',');
+    let numbers: Option<Vec<u64>> = fields.map(number).collect();
+    numbers?.try_into().ok()
 }
 
 /// Refusal 1 alone.
-pub fn parse(input: &[u8]) -> Result<Request, Refusal> {
+pub(crate) fn parse<const COUNT: usize>(input: &[u8]) -> Result<[u64; COUNT], Refusal> {
     parse_line(input).ok_or(Refusal::Line)
 }
 
-/// Refusals 1, 2 and 3: "first row plus how many exceeds the count".
-pub fn accept(input: &[u8]) -> Result<(Length, Request), Refusal> {
-    let request = parse(input)?;
-    let length = Length::new(request.length)?;
-    if request.first + request.how_many > length.rows() as u64 {
+/// Refusal 3: "first row plus how many exceeds the count".
+pub(crate) fn asked(first: u64, how_many: u64, count: usize) -> Result<Range<usize>, Refusal> {
+    if first + how_many > count as u64 {
         return Err(Refusal::Row);
     }
-    Ok((length, request))
+    Ok(first as usize..(first + how_many) as usize)
+}
+
+/// Refusals 1, 2 and 3: the length, and the rows that are asked for.
+pub(crate) fn accept(input: &[u8]) -> Result<(Length, Range<usize>), Refusal> {
+    let [length, first, how_many] = parse(input)?;
+    let length = Length::new(length)?;
+    Ok((length, asked(first, how_many, length.rows())?))
 }
 
 /// Lines `row,part,wire,coefficient` of one sum.
@@ -83,12 +73,12 @@ pub fn refused(refusal: Refusal) -> String {
     format!("refused,{}\n", refusal.number())
 }
 
-/// What the program prints for a line that is not refused.
-fn print_request(length: Length, request: Request) -> String {
+/// What is printed of these rows of a table, which is built where there are any.
+pub(crate) fn print_rows(asked: Range<usize>, table: impl FnOnce() -> RowTable) -> String {
     let mut out = String::from("row,part,wire,coefficient\n");
-    if request.how_many > 0 {
-        let table = rows::rows(length);
-        for number in request.first..request.first + request.how_many {
+    if !asked.is_empty() {
+        let table = table();
+        for number in asked {
             let number = RowNumber(number as u32);
             print_row(&mut out, number, table.row(number));
         }
@@ -99,7 +89,7 @@ fn print_request(length: Length, request: Request) -> String {
 /// All that the program `rows` prints for what stood on standard input.
 pub fn listing(input: &[u8]) -> String {
     match accept(input) {
-        Ok((length, request)) => print_request(length, request),
+        Ok((length, asked)) => print_rows(asked, || rows::rows(length)),
         Err(refusal) => refused(refusal),
     }
 }

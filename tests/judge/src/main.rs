@@ -1,6 +1,7 @@
 //! `judge rows`: reads the line of the program `rows` on standard input and
 //! prints what that program must print.
 //! `judge steps`: the same for the program `steps`.
+//! `judge axle_rows` and `judge axle_steps`: the same for these two programs.
 //! `judge packed`: the same for the program `packed`, its line and bytes.
 //! `judge digest BITS`: the digest, in hexadecimal, of the record of so many
 //! bits whose bytes are on standard input; without BITS, of all their bits.
@@ -13,10 +14,10 @@ use judge::length::Length;
 use judge::listing::{listing, refused};
 use judge::operations;
 use judge::refusal::Refusal;
-use judge::{packed, steps};
+use judge::{axles, packed, steps};
 
-const USAGE: &str =
-    "usage: judge rows | judge steps | judge packed | judge digest [BITS] | judge counts BITS";
+const USAGE: &str = "usage: judge rows | judge steps | judge axle_rows | judge axle_steps | \
+                     judge packed | judge digest [BITS] | judge counts BITS";
 
 fn standard_input() -> io::Result<Vec<u8>> {
     let mut bytes = Vec::new();
@@ -51,6 +52,8 @@ fn answer(arguments: &[String]) -> io::Result<Option<String>> {
     let text = match words[..] {
         ["rows"] => listing(&standard_input()?),
         ["steps"] => steps::listing(&standard_input()?),
+        ["axle_rows"] => axles::listing::axle_rows(&standard_input()?),
+        ["axle_steps"] => axles::listing::axle_steps(&standard_input()?),
         ["packed"] => packed::answer(&standard_input()?),
         ["digest"] => digest(None)?,
         ["digest", length] => match length.parse() {

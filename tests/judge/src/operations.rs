@@ -51,7 +51,8 @@ pub struct Counts {
 /// One row by its number: refusals 2, 3, 4.
 pub fn row(length: u64, number: u64, buffer: &mut [u8]) -> Result<Counts, Refusal> {
     let length = Length::new(length)?;
-    row_arguments(length, number, buffer)?;
+    // The arguments first, so that no row is built for what is refused.
+    row_arguments(length.rows(), number, buffer)?;
     row_with(&rows::rows(length), length, number, buffer)
 }
 
@@ -62,7 +63,7 @@ pub fn row_with(
     number: u64,
     buffer: &mut [u8],
 ) -> Result<Counts, Refusal> {
-    row_arguments(length, number, buffer)?;
+    row_arguments(length.rows(), number, buffer)?;
     row_at_hand(table.row(RowNumber(number as u32)), buffer)
 }
 
@@ -73,8 +74,8 @@ pub fn row_at_hand(row: Row<'_>, buffer: &mut [u8]) -> Result<Counts, Refusal> {
 }
 
 /// Refusal 3, "the row number is not below the row count", then refusal 4.
-fn row_arguments(length: Length, number: u64, buffer: &[u8]) -> Result<(), Refusal> {
-    if number >= length.rows() as u64 {
+pub(crate) fn row_arguments(count: usize, number: u64, buffer: &[u8]) -> Result<(), Refusal> {
+    if number >= count as u64 {
         return Err(Refusal::Row);
     }
     long_enough(buffer, ROW_BYTES)

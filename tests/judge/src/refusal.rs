@@ -1,7 +1,7 @@
 //! "Refusals in checking order", those that packing adds, the two that lengths
-//! in bits add, and the three of passage records. Each has a number. Three carry
-//! more: 9 "the lowest row that is not satisfied", 10 the "lowest wire", and 16
-//! the "lowest byte".
+//! in bits add, the three of passage records, and the two of axles between
+//! bounds. Each has a number. Three carry more: 9 "the lowest row that is not
+//! satisfied", 10 the "lowest wire", and 16 the "lowest byte".
 
 use crate::forms::{RowNumber, Wire};
 use crate::passage::line::Place;
@@ -42,6 +42,10 @@ pub enum Refusal {
     WrongByte(Place),
     /// 17. Lane 000 or axles below 02.
     LaneOrAxles,
+    /// 18. A bound outside 2 to 99, or the lower above the upper.
+    Bounds,
+    /// 19. The record's axles are no two digits, or not within the bounds.
+    OutsideBand,
 }
 
 impl Refusal {
@@ -65,6 +69,8 @@ impl Refusal {
             Refusal::LineBytes => 15,
             Refusal::WrongByte(_) => 16,
             Refusal::LaneOrAxles => 17,
+            Refusal::Bounds => 18,
+            Refusal::OutsideBand => 19,
         }
     }
 }

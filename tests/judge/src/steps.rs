@@ -8,11 +8,11 @@
 use std::ops::Range;
 
 use crate::length::Length;
-use crate::listing::{accept, refused, Request};
+use crate::listing::{accept, refused};
 
 /// "The row form, by its name in document 01"; "a digest row is `equal`".
 #[derive(Clone, Copy)]
-enum Form {
+pub(crate) enum Form {
     Fixed,
     Bit,
     XorOfTwo,
@@ -156,11 +156,19 @@ impl Walk {
         self.words("result", 8, Form::XorOfTwo);
         self.block = None;
     }
+
+    /// "What a circuit has behind the digest's rows": of each row "its number
+    /// among these", and position 0.
+    fn appended(&mut self, forms: &[Form]) {
+        for (index, &form) in forms.iter().enumerate() {
+            self.row("appended", index, Some(0), form);
+        }
+    }
 }
 
 /// The lines of the rows asked for. "Order: 256 fixed start rows; each block";
-/// "256 rows (digest wire - last result wire) × 1 = 0".
-fn lines(length: Length, asked: Range<usize>) -> String {
+/// "256 rows (digest wire - last result wire) × 1 = 0"; then those appended.
+fn lines(length: Length, appended: &[Form], asked: Range<usize>) -> String {
     let mut walk = Walk {
         next: 0,
         block: None,
@@ -172,13 +180,14 @@ fn lines(length: Length, asked: Range<usize>) -> String {
         walk.block(length, block);
     }
     walk.words("digest", 8, Form::Equal);
+    walk.appended(appended);
     walk.lines
 }
 
-/// What the program prints for a line that is not refused.
-fn print_request(length: Length, request: Request) -> String {
-    let (first, how_many) = (request.first as usize, request.how_many as usize);
-    String::from("row,block,step,index,bit,form\n") + &lines(length, first..first + how_many)
+/// What is printed of these rows of a record's circuit with rows of such forms
+/// appended.
+pub(crate) fn print_steps(length: Length, appended: &[Form], asked: Range<usize>) -> String {
+    String::from("row,block,step,index,bit,form\n") + &lines(length, appended, asked)
 }
 
 /// All that the program `steps` prints for what stood on standard input: it
@@ -186,7 +195,8 @@ fn print_request(length: Length, request: Request) -> String {
 /// way".
 pub fn listing(input: &[u8]) -> String {
     match accept(input) {
-        Ok((length, request)) => print_request(length, request),
+        // A record has nothing appended.
+        Ok((length, asked)) => print_steps(length, &[], asked),
         Err(refusal) => refused(refusal),
     }
 }

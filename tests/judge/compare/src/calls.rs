@@ -28,11 +28,11 @@ type Judge<'a> = dyn Fn(&[u8], &mut [u8]) -> Result<(), Refusal> + 'a;
 type Library<'a> = dyn Fn(Empty, &[u8], &mut [u8]) -> u64 + 'a;
 
 /// A call that reads one slice and writes another, of both sides.
-struct Written<'a> {
-    operation: Operation,
-    what: &'a str,
-    judge: &'a Judge<'a>,
-    library: &'a Library<'a>,
+pub struct Written<'a> {
+    pub operation: Operation,
+    pub what: &'a str,
+    pub judge: &'a Judge<'a>,
+    pub library: &'a Library<'a>,
 }
 
 impl Calls {
@@ -76,7 +76,12 @@ impl Calls {
     }
 
     /// A call that reads one slice and writes a buffer of that length.
-    fn written(&mut self, call: Written<'_>, read: &[u8], out_len: usize) -> Result<(), Refusal> {
+    pub fn written(
+        &mut self,
+        call: Written<'_>,
+        read: &[u8],
+        out_len: usize,
+    ) -> Result<(), Refusal> {
         let (operation, what) = (
             call.operation,
             format!("{}, buffer of {out_len}", call.what),

@@ -138,12 +138,13 @@ fn swap(claim: &mut Claim, one: usize, other: usize, count: usize) {
 }
 
 /// The wires of one block, or of all from one on, become those of another
-/// record of the same length. Its digest is taken over or not.
+/// record of the same length; what a circuit has behind its blocks stays. The
+/// other digest is taken over or not.
 fn other_block(ground: &Ground, claim: &mut Claim, random: &mut Random) {
     let other = ground.claim(random);
     let block = random.below(ground.length.blocks());
     let first = FIRST + BLOCK * block;
-    let last = random.pick(&[first + BLOCK, claim.wires()]);
+    let last = random.pick(&[first + BLOCK, other.wires()]);
     claim.assignment[8 * first..8 * last].copy_from_slice(&other.assignment[8 * first..8 * last]);
     claim.note += &format!(", wires {first} to {} of another record", last - 1);
     if random.one_in(2) {

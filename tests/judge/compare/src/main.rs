@@ -1,14 +1,19 @@
 //! Compares the C libraries libsm3rows.a and libpassage_c.a with the judge, the
-//! digest with OpenSSL's too, and the programs `rows`, `steps` and `packed` with the judge.
+//! digest with OpenSSL's too, and the programs `rows`, `steps`, `packed`,
+//! `axle_rows` and `axle_steps` with the judge.
 //!
-//! `compare --rows FILE --steps FILE --packed FILE [--short | --full] [--seed N]
-//! [--threads N]`
+//! `compare --rows FILE --steps FILE --packed FILE --axle-rows FILE
+//! --axle-steps FILE [--short | --full] [--seed N] [--threads N] [--only WORD]`
 //! `compare --soak MINUTES [--seed N]`
+//!
+//! With a word, only those jobs are done that have it in their names. They make
+//! the calls that they make among all.
 //!
 //! Leaves with 0 when nothing differs, with 1 when something does, with 2
 //! when the arguments are not understood.
 
 mod answers;
+mod axles;
 mod calls;
 mod claim;
 mod damage;
@@ -44,7 +49,8 @@ use program::{Program, Programs};
 use tally::{Tally, TOLD};
 
 const USAGE: &str =
-    "usage: compare --rows FILE --steps FILE --packed FILE [--short | --full] [--seed N] [--threads N]
+    "usage: compare --rows FILE --steps FILE --packed FILE --axle-rows FILE --axle-steps FILE
+               [--short | --full] [--seed N] [--threads N] [--only WORD]
        compare --soak MINUTES [--seed N]";
 
 /// The form: a comparison, which needs the programs, or the soak.
@@ -57,6 +63,7 @@ struct Options {
     form: Form,
     seed: u64,
     threads: usize,
+    only: String,
 }
 
 /// The programs by the options that name their files.
@@ -65,11 +72,14 @@ fn programs(mut files: BTreeMap<&str, PathBuf>) -> Option<Programs> {
         rows: Program::rows(files.remove("--rows")?),
         steps: Program::steps(files.remove("--steps")?),
         packed: Program::packed(files.remove("--packed")?),
+        axle_rows: Program::axle_rows(files.remove("--axle-rows")?),
+        axle_steps: Program::axle_steps(files.remove("--axle-steps")?),
     })
 }
 
 fn options(arguments: &[String]) -> Option<Options> {
     let (mut full, mut minutes, mut seed) = (false, None, 1);
+    let mut only = String::new();
     let mut files = BTreeMap::new();
     let mut threads = thread::available_parallelism().map_or(1, |n| n.get());
     let mut words = arguments.iter().map(String::as_str);
@@ -80,7 +90,8 @@ fn options(arguments: &[String]) -> Option<Options> {
             "--soak" => minutes = Some(words.next()?.parse::<f64>().ok()?),
             "--seed" => seed = words.next()?.parse().ok()?,
             "--threads" => threads = words.next()?.parse().ok()?,
-            "--rows" | "--steps" | "--packed" => {
+            "--only" => only = String::from(words.next()?),
+            "--rows" | "--steps" | "--packed" | "--axle-rows" | "--axle-steps" => {
                 files.insert(word, PathBuf::from(words.next()?));
             }
             _ => return None,
@@ -97,6 +108,7 @@ fn options(arguments: &[String]) -> Option<Options> {
         form,
         seed,
         threads,
+        only,
     })
 }
 
@@ -115,13 +127,17 @@ fn progress(begin: Instant, told: &Mutex<Instant>, done: usize, of: usize, name:
     }
 }
 
-/// Does all jobs on some threads; stops early when much differs.
-fn compare(jobs: &[Job], seed: u64, threads: usize) -> Tally {
+/// Does the jobs with that word in their names on some threads; stops early when
+/// much differs. Each has the stream of its number among all.
+fn compare(jobs: &[Job], seed: u64, threads: usize, only: &str) -> Tally {
     let (begin, told) = (Instant::now(), Mutex::new(Instant::now()));
     let (next, total) = (AtomicUsize::new(0), Mutex::new(Tally::default()));
     let work = || loop {
         let number = next.fetch_add(1, Ordering::Relaxed);
         let Some(job) = jobs.get(number) else { break };
+        if !job.name.contains(only) {
+            continue;
+        }
         progress(begin, &told, number, jobs.len(), &job.name);
         let mut calls = Calls::new(seed, number as u64);
         (job.work)(&mut calls);
@@ -140,7 +156,7 @@ fn compare(jobs: &[Job], seed: u64, threads: usize) -> Tally {
 }
 
 /// The comparison with its report. True when nothing differs.
-fn report(full: bool, programs: &Programs, seed: u64, threads: usize) -> bool {
+fn report(full: bool, programs: &Programs, seed: u64, threads: usize, only: &str) -> bool {
     let (amounts, form) = if full {
         (Amounts::full(), "full")
     } else {
@@ -149,7 +165,11 @@ fn report(full: bool, programs: &Programs, seed: u64, threads: usize) -> bool {
     println!("{form} comparison, seed {seed}, {threads} threads");
     let begin = Instant::now();
     let jobs = plan::jobs(&amounts, seed, programs);
-    let tally = compare(&jobs, seed, threads);
+    if !jobs.iter().any(|job| job.name.contains(only)) {
+        println!("no job has '{only}' in its name");
+        return false;
+    }
+    let tally = compare(&jobs, seed, threads, only);
     println!("{tally}");
     for difference in tally.differences.iter().take(TOLD) {
         println!("DIFFERS: {difference}");
@@ -170,7 +190,7 @@ fn main() -> ExitCode {
     };
     let (seed, threads) = (options.seed, options.threads);
     let same = match options.form {
-        Form::Compare { full, programs } => report(full, &programs, seed, threads),
+        Form::Compare { full, programs } => report(full, &programs, seed, threads, &options.only),
         Form::Soak(time) => soak::soak(seed, time),
     };
     ExitCode::from(u8::from(!same))

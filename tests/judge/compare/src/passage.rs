@@ -2,7 +2,7 @@
 
 mod calls;
 mod faults;
-mod fields;
+pub mod fields;
 mod lines;
 mod plates;
 mod seals;

@@ -6,7 +6,7 @@ use judge::length::{Length, LONGEST};
 use crate::calls::Calls;
 use crate::claim::Ground;
 use crate::program::{Program, Programs};
-use crate::{kinds, listings, packed, packing, passage, records, refusals, sections};
+use crate::{axles, kinds, listings, packed, packing, passage, records, refusals, sections};
 
 /// How much of everything. Lengths are in bits.
 pub struct Amounts {
@@ -42,6 +42,7 @@ pub struct Amounts {
     /// Claims at random lengths, and as many damaged lines, to `packed`.
     claims: usize,
     passages: passage::Amounts,
+    axles: axles::Amounts,
 }
 
 impl Amounts {
@@ -65,13 +66,11 @@ impl Amounts {
             lines: 40,
             claims: 10,
             passages: passage::Amounts::short(),
+            axles: axles::Amounts::short(),
         }
     }
 
     pub fn full() -> Amounts {
-        // A whole table for every number of blocks, and some more.
-        let mut tables: Vec<u64> = (1..=16).map(|blocks| 512 * blocks - 65).collect();
-        tables.extend([0, 1, 249, 256, 440, 448, 511, 512, 513, 958, 960, 4003]);
         Amounts {
             digests: 16,
             produced: 2,
@@ -81,7 +80,7 @@ impl Amounts {
             length_step: 11,
             sampled_rows: 1_000,
             some_damages: 8,
-            tables,
+            tables: all_blocks(),
             damaged: vec![
                 (0, 100),
                 (75, 400),
@@ -106,8 +105,18 @@ impl Amounts {
             lines: 1_000,
             claims: 200,
             passages: passage::Amounts::full(),
+            axles: axles::Amounts::full(),
         }
     }
+}
+
+/// A length for every number of blocks, and some more.
+fn all_blocks() -> Vec<u64> {
+    let more = [0, 1, 249, 256, 440, 448, 511, 512, 513, 958, 960, 4003];
+    (1..=16)
+        .map(|blocks| 512 * blocks - 65)
+        .chain(more)
+        .collect()
 }
 
 type Work = Box<dyn Fn(&mut Calls) + Send + Sync>;
@@ -153,6 +162,7 @@ pub fn jobs(amounts: &Amounts, seed: u64, programs: &Programs) -> Vec<Job> {
     refusal_jobs(&mut jobs, amounts);
     packed_jobs(&mut jobs, amounts, &programs.packed);
     jobs.extend(passage::jobs(&amounts.passages));
+    jobs.extend(axles::jobs(&amounts.axles, programs));
     listing_jobs(&mut jobs, amounts, seed, &programs.rows);
     listing_jobs(&mut jobs, amounts, seed, &programs.steps);
     length_jobs(&mut jobs, amounts, seed);

@@ -6,7 +6,7 @@ use std::process::{Command, Stdio};
 use std::thread;
 use std::time::Duration;
 
-use judge::{listing, packed, steps};
+use judge::{axles, listing, packed, steps};
 
 use crate::calls::Calls;
 use crate::random::Random;
@@ -27,6 +27,8 @@ pub struct Programs {
     pub rows: Program,
     pub steps: Program,
     pub packed: Program,
+    pub axle_rows: Program,
+    pub axle_steps: Program,
 }
 
 /// How long a program has to read the first part of an input before the
@@ -129,6 +131,26 @@ impl Program {
             judge: packed::answer,
             given: "claims to the program packed",
             printed: answer,
+        }
+    }
+
+    pub fn axle_rows(file: PathBuf) -> Program {
+        Program {
+            name: "axle_rows",
+            file,
+            judge: axles::listing::axle_rows,
+            given: "lines to the program axle_rows",
+            printed: |text| ("lines that the program axle_rows printed", lines(text)),
+        }
+    }
+
+    pub fn axle_steps(file: PathBuf) -> Program {
+        Program {
+            name: "axle_steps",
+            file,
+            judge: axles::listing::axle_steps,
+            given: "lines to the program axle_steps",
+            printed: |text| ("lines that the program axle_steps printed", lines(text)),
         }
     }
 

@@ -13,6 +13,7 @@ use judge::packing;
 use judge::record::spare_bits;
 
 use crate::answers::{self, told};
+use crate::axles::soak::Bands;
 use crate::claim::{Claim, Ground};
 use crate::damage::WAYS;
 use crate::passage::soak::Passages;
@@ -58,6 +59,7 @@ struct Pool {
     checks: Vec<Checked>,
     buffer: Vec<u8>,
     passages: Passages,
+    bands: Bands,
 }
 
 /// Whether an answer and the bytes of a buffer are what they must be.
@@ -141,6 +143,7 @@ impl Pool {
             checks,
             buffer,
             passages: Passages::new(random),
+            bands: Bands::new(random),
         }
     }
 
@@ -270,7 +273,8 @@ impl Pool {
     /// One call, mostly a short one.
     fn call(&mut self, random: &mut Random) -> Result<(), String> {
         match random.below(100) {
-            0..=34 => self.row(random),
+            0..=29 => self.row(random),
+            30..=34 => self.bands.call(random),
             35..=54 => self.passages.call(random),
             55..=89 => self.digest(random),
             90..=93 => self.refused(random),

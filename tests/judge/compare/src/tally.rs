@@ -18,6 +18,9 @@ pub enum Operation {
     PassageWrite,
     PassageSeal,
     PassageCheck,
+    AxlesRow,
+    AxlesProduce,
+    AxlesCheck,
 }
 
 /// Operations of a library with their names, and the refusals that it gives, 0
@@ -49,10 +52,23 @@ const PASSAGES: Table = Table {
     refusals: &[0, 15, 16, 17, 4, 5, 6, 7, 8, 9],
 };
 
+const AXLES: Table = Table {
+    operations: &[
+        (Operation::AxlesRow, "row"),
+        (Operation::AxlesProduce, "produce"),
+        (Operation::AxlesCheck, "check"),
+    ],
+    refusals: &[0, 13, 18, 19, 3, 4, 5, 6, 7, 8, 9],
+};
+
+/// The bits of the record with appended rows, and the first of these rows.
+const AXLES_BITS: u64 = 504;
+const APPENDED: u32 = 65_152;
+
 #[derive(Default)]
 pub struct Tally {
     /// Calls by operation and by the judge's refusal, 0 for none.
-    calls: [[u64; 18]; 10],
+    calls: [[u64; 20]; 13],
     /// Other things counted, by their name.
     counts: BTreeMap<&'static str, u64>,
     /// Rows seen as the failing one: the record's bits and the row number.
@@ -120,12 +136,16 @@ impl fmt::Display for Tally {
     fn fmt(&self, f: &mut fmt::Formatter<'_>) -> fmt::Result {
         self.show(&ROWS, "the row library", f)?;
         self.show(&PASSAGES, "the passage library", f)?;
+        self.show(&AXLES, "the axle circuit", f)?;
         for (name, count) in &self.counts {
             writeln!(f, "{count:>10}  {name}")?;
         }
         let all = self.failing.len();
         writeln!(f, "{all:>10}  different failing rows")?;
         let seen = self.failing.iter().filter(|row| row.0 == 447).count();
-        write!(f, "{seen:>10}  of them at 447 bits, which have 32832 rows")
+        writeln!(f, "{seen:>10}  of them at 447 bits, which have 32832 rows")?;
+        let appended = |row: &&(u64, u32)| row.0 == AXLES_BITS && row.1 >= APPENDED;
+        let seen = self.failing.iter().filter(appended).count();
+        write!(f, "{seen:>10}  of them appended for axles, which are 34")
     }
 }

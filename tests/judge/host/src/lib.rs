@@ -1,13 +1,14 @@
-//! A host of the two C libraries: the six functions of `include/sm3rows.h`, the
-//! four of `include/passage.h` and OpenSSL's SM3, on slices. All unsafe code of
-//! the comparison is here.
+//! A host of the two C libraries: the functions of `include/sm3rows.h`, six of a
+//! record and three of axles between two bounds, the four of `include/passage.h`
+//! and OpenSSL's SM3, on slices. All unsafe code of the comparison is here.
 
+pub mod axles;
 pub mod openssl;
 pub mod passage;
 
 use std::ptr;
 
-/// As `include/sm3rows.h` declares them.
+/// As `include/sm3rows.h` declares those of a record.
 mod c {
     extern "C" {
         pub fn sm3rows_digest(
@@ -73,7 +74,7 @@ impl Empty {
     }
 }
 
-// Each call, those of `passage` too, lends slices that live through it, and none
+// Each call, those of `axles` and `passage` too, lends slices that live through it, and none
 // overlaps one that is written, which the borrows of the arguments see to.
 
 pub fn digest(empty: Empty, bits: u64, record: &[u8], out: &mut [u8]) -> u64 {

@@ -2,6 +2,8 @@
 //! an evaluation of rows that goes another way than the check's own.
 #![allow(dead_code)]
 
+pub mod axles;
+
 use std::io::Write;
 use std::process::{Command, Stdio};
 
