@@ -37,6 +37,14 @@ static void by_libgcrypt(uint64_t bits)
     gcry_md_hash_buffer(GCRY_MD_SM3, digest, record, bits / 8);
 }
 
+/* All rows, one after the other. */
+static void by_row(uint64_t bits)
+{
+    uint8_t out[SM3ROWS_ROW_BYTES];
+    for (uint64_t row = 0; row < SM3ROWS_ROWS(bits); row++)
+        go_on(sm3rows_row(bits, row, out, sizeof out));
+}
+
 static void by_produce(uint64_t bits)
 {
     go_on(sm3rows_produce(bits, record, SM3ROWS_RECORD_BYTES(bits), (uint8_t *)assignment, sizeof assignment));
@@ -103,12 +111,31 @@ static void by_check_line(uint64_t bits)
     go_on(check_line());
 }
 
+static void by_axles_row(uint64_t bits)
+{
+    (void)bits;
+    go_on(list_band());
+}
+
+static void by_axles_produce(uint64_t bits)
+{
+    (void)bits;
+    go_on(produce_band());
+}
+
+static void by_axles_check(uint64_t bits)
+{
+    (void)bits;
+    go_on(check_band());
+}
+
 static const struct {
     const char *name;
     void (*call)(uint64_t bits);
 } sides[] = {{"digest", by_digest},
              {"openssl", by_openssl},
              {"libgcrypt", by_libgcrypt},
+             {"row", by_row},
              {"produce", by_produce},
              {"check", by_check},
              {"pack", by_pack},
@@ -120,7 +147,10 @@ static const struct {
              {"passage-write", by_write},
              {"c-write", by_c_write},
              {"passage-seal", by_seal},
-             {"passage-check", by_check_line}};
+             {"passage-check", by_check_line},
+             {"axles-row", by_axles_row},
+             {"axles-produce", by_axles_produce},
+             {"axles-check", by_axles_check}};
 
 int main(int count, char **arguments)
 {
@@ -138,7 +168,8 @@ int main(int count, char **arguments)
     by_digest(bits);
     by_produce(bits); /* for the check and packing to read, and the packed bytes for unpacking */
     by_pack(bits);
-    by_seal(bits); /* for the check of a line */
+    by_seal(bits); /* for the check of a line, and its digest for that of its axles */
+    by_axles_produce(bits);
     for (size_t side = 0; side < sizeof sides / sizeof *sides; side++)
         if (strcmp(sides[side].name, arguments[1]) == 0)
             for (int call = 0; call < calls; call++)

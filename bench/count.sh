@@ -1,7 +1,7 @@
 #!/bin/sh
 # Counts by cachegrind, which no busy machine disturbs: the instructions of a digest on each side, those of records that end
 # inside a byte beside those of whole bytes, those of the producer's blocks with the lines that are missed by caches as
-# large as this machine's first two, those of packing, and those of a passage line.
+# large as this machine's first two, those of packing, those of a passage line, and those of its axles between two bounds.
 # SM3ROWS_LIB and PASSAGE_LIB name the archives; without them, they are those that `rt staticlib sm3rows` and
 # `rt staticlib passage_c` write.
 set -eu
@@ -52,14 +52,14 @@ beside() {
         NR == 2 { printf "%-8s %6d %5d %12.0f %12.0f %7.4f\n", side, bits, whole, inside, $1, inside / $1 }'
 }
 
-# line SIDE OTHERS..: a line for a passage line's side, beside the sum of others for as many bits.
+# line SIDE OTHERS..: a line for a passage line's side, or its axles', beside the sum of others for as many bits.
 line() {
     name=$1
     shift
     for side in "$name" "$@"; do call "$side" 504; done | awk -v name="$name" -v others="$*" '
         NR == 1 { ours = $1 }
         NR > 1 { sum += $1 }
-        END { printf "%-13s %8.0f %8.0f %7.4f  %s\n", name, ours, sum, ours / sum, others }'
+        END { printf "%-13s %9.0f %9.0f %7.4f  %s\n", name, ours, sum, ours / sum, others }'
 }
 
 echo "instructions of a digest, bits       0   8120  a block more"
@@ -93,3 +93,7 @@ line passage-read c-read
 line passage-write c-write
 line passage-seal digest produce
 line passage-check check
+echo "its axles between two bounds, beside a record of as many bits; of rows all, one after the other"
+line axles-row row
+line axles-produce produce
+line axles-check check

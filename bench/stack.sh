@@ -37,4 +37,4 @@ while [ $((enough - less)) -gt 1 ]; do
     half=$(((less + enough) / 2))
     if accepts "$half"; then enough=$half; else less=$half; fi
 done
-echo "packed          $enough KiB of stack are enough, $less are not"
+echo "packed                $enough KiB of stack are enough, $less are not"

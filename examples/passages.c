@@ -1,7 +1,8 @@
 /* Reads passage lines from a file, as a plaza's host does, and seals them: of a right line its fields, its digest and that
- * what was sealed is accepted; of a wrong line what is wrong with it. Before that, a line made of its fields, and what the
- * check says once an entry of its assignment was changed. Usage: passages FILE; each line ends with a line feed, which is
- * no part of it, and a blank line at the end of the file is none. Builds by examples/passages.sh. */
+ * what was sealed is accepted; of a wrong line what is wrong with it. Before that, a line made of its fields, what the
+ * check says once an entry of its assignment was changed, and the band that its axles are in, shown to a partner that
+ * bills by it. Usage: passages FILE; each line ends with a line feed, which is no part of it, and a blank line at the
+ * end of the file is none. Builds by examples/passages.sh. */
 
 #include <inttypes.h>
 #include <stdio.h>
@@ -9,6 +10,7 @@
 #include <string.h>
 
 #include "passage.h"
+#include "sm3rows.h"
 
 /* What comes of a line: the digest goes to the partner road, the assignment to the proof back end. */
 struct sealed {
@@ -22,6 +24,12 @@ static void *room(size_t bytes)
     if (new == NULL && bytes > 0)
         exit(EXIT_FAILURE);
     return new;
+}
+
+static uint64_t seal(const uint8_t *line, size_t size, struct sealed *sealed)
+{
+    return passage_seal(line, size, sealed->digest, sizeof sealed->digest, sealed->assignment,
+                        sizeof sealed->assignment);
 }
 
 static uint64_t check(const struct sealed *sealed)
@@ -111,14 +119,51 @@ static int name_wrong_fields(void)
 static int name_row(const uint8_t line[PASSAGE_LINE_BYTES])
 {
     struct sealed *sealed = room(sizeof *sealed);
-    uint64_t answer = passage_seal(line, PASSAGE_LINE_BYTES, sealed->digest, sizeof sealed->digest, sealed->assignment,
-                                   sizeof sealed->assignment);
+    uint64_t answer = seal(line, PASSAGE_LINE_BYTES, sealed);
     int right = answer == 0 && check(sealed) == 0;
     sealed->assignment[8 * 513] ^= 1;
     answer = check(sealed);
     free(sealed);
     printf("damaged  refusal %u, row %" PRIu64 "\n", PASSAGE_REFUSAL(answer), PASSAGE_FAILING_ROW(answer));
     return right && PASSAGE_REFUSAL(answer) == 9;
+}
+
+/* ---- The band that a line's axles are in ---- */
+
+/* What is named to a partner that bills by it. The assignment holds the whole line and goes to the proof back end. */
+struct band {
+    uint64_t lower, upper;
+};
+enum { BAND_BYTES = SM3ROWS_AXLES_ASSIGNMENT_BYTES };
+
+static uint64_t produce_band(struct band band, const uint8_t line[PASSAGE_LINE_BYTES], uint8_t *assignment)
+{
+    return sm3rows_axles_produce(band.lower, band.upper, line, PASSAGE_LINE_BYTES, assignment, BAND_BYTES);
+}
+
+/* Against the digest that the partner got when the line was sealed. */
+static uint64_t check_band(struct band band, const struct sealed *sealed, const uint8_t *assignment)
+{
+    return sm3rows_axles_check(band.lower, band.upper, sealed->digest, sizeof sealed->digest, assignment, BAND_BYTES);
+}
+
+/* The line has 3 axles. For a band that they are not in nothing is produced; and what was produced for one band is not
+ * accepted for another, though they are in that one too: the check names a row. */
+static int name_bands(const uint8_t line[PASSAGE_LINE_BYTES])
+{
+    static const struct band band = {2, 4}, wrong = {4, 9}, other = {3, 4};
+    struct sealed *sealed = room(sizeof *sealed);
+    uint8_t *assignment = room(BAND_BYTES);
+    int right = seal(line, PASSAGE_LINE_BYTES, sealed) == 0 && produce_band(band, line, assignment) == 0 &&
+                check_band(band, sealed, assignment) == 0;
+    uint64_t outside = produce_band(wrong, line, assignment), moved = check_band(other, sealed, assignment);
+    free(assignment);
+    free(sealed);
+    printf("band     axles 2 to 4: %s\n", right ? "accepted" : "REFUSED");
+    printf("         axles 4 to 9: refusal %u\n", SM3ROWS_REFUSAL(outside));
+    printf("         axles 3 to 4, with the assignment for 2 to 4: refusal %u, row %" PRIu64 "\n",
+           SM3ROWS_REFUSAL(moved), SM3ROWS_FAILING_ROW(moved));
+    return right && SM3ROWS_REFUSAL(outside) == 19 && SM3ROWS_REFUSAL(moved) == 9;
 }
 
 /* ---- The lines of a file ---- */
@@ -131,8 +176,7 @@ static int go_through_line(size_t number, const uint8_t *bytes, size_t size)
     struct sealed *sealed = room(sizeof *sealed);
     if (size > 0)
         memcpy(line, bytes, size);
-    uint64_t answer = passage_seal(line, size, sealed->digest, sizeof sealed->digest, sealed->assignment,
-                                   sizeof sealed->assignment);
+    uint64_t answer = seal(line, size, sealed);
     printf("line %-3zu ", number);
     int right = 1;
     if (answer == 0) {
@@ -194,7 +238,7 @@ int main(int argc, char **argv)
         return EXIT_FAILURE;
     }
     int right = compose(line);
-    right = right && name_row(line);
+    right = right && name_row(line) && name_bands(line);
     right &= name_wrong_fields();
     right &= go_through_lines(bytes, size);
     free(bytes);

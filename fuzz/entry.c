@@ -1,4 +1,4 @@
-/* libFuzzer harness for the six functions of include/sm3rows.h.
+/* libFuzzer harness for the six functions of include/sm3rows.h that take a record's bits.
  *
  * An input is read as one call: a byte for the function, then its numbers, then bytes for its slices. The archive is not
  * instrumented, so the harness looks for faults itself: every slice ends at a page that cannot be touched, or begins
@@ -11,8 +11,6 @@
 #include "lent.h"
 #include "must.h"
 #include "sm3rows.h"
-
-static const uint64_t P = ((uint64_t)1 << 61) - 1;
 
 enum { MOST_BITS = 8127, MOST_BYTES = 1100 }; /* the most bits of a record; more bytes than they take */
 
@@ -114,21 +112,6 @@ static void digest(struct input *in)
         MUST(sm3rows_digest(8 * length, record, length, again, sizeof again) == 0 && memcmp(out, again, 32) != 0);
 }
 
-/* The terms of one sum: rising wires, coefficients from 1 to p - 1. */
-static const uint8_t *terms(const uint8_t *at, unsigned count, uint64_t wires)
-{
-    int64_t before = -1;
-    for (unsigned k = 0; k < count; k++, at += 12) {
-        uint32_t wire;
-        uint64_t coefficient;
-        memcpy(&wire, at, 4);
-        memcpy(&coefficient, at + 4, 8);
-        MUST(wire > before && wire < wires && coefficient > 0 && coefficient < P);
-        before = wire;
-    }
-    return at;
-}
-
 /* A row: that of a message bit near the last record bit, one near the row count, or any. */
 static uint64_t take_row(struct input *in, uint64_t bits, uint64_t rows)
 {
@@ -228,26 +211,6 @@ static uint64_t take_other(struct input *in, int other, uint64_t real)
 {
     uint64_t how = other ? take(in, 1) : 0;
     return !other ? real : how < 128 ? real + how % 32 - 16 : take_bits(in);
-}
-
-/* A wire below so many: one of the first 257, one of the last 8, or any. */
-static uint64_t take_wire(struct input *in, uint64_t wires)
-{
-    uint64_t number = take(in, 4);
-    switch (number >> 30) {
-    case 1:
-        return number % 257;
-    case 2:
-        return wires - 1 - number % 8;
-    }
-    return number % wires;
-}
-
-/* An entry: a number beside a multiple of p, or any. */
-static uint64_t take_entry(struct input *in)
-{
-    uint64_t times = take(in, 1) % 16;
-    return times <= 8 ? times * P + take(in, 1) % 4 - 1 : take(in, 8);
 }
 
 /* A record's digest and, in `rights`, its assignment; in `claims` the same with up to 7 entries changed, and zeros

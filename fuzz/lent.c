@@ -6,6 +6,7 @@
 #include <sys/mman.h>
 
 #include "lent.h"
+#include "must.h"
 
 uint64_t take(struct input *in, int bytes)
 {
@@ -33,6 +34,24 @@ uint64_t take_near(struct input *in, uint64_t centre)
 size_t take_size(struct input *in, int near, size_t exact)
 {
     return near ? exact + take(in, 1) - 128 : exact;
+}
+
+uint64_t take_wire(struct input *in, uint64_t wires)
+{
+    uint64_t number = take(in, 4);
+    switch (number >> 30) {
+    case 1:
+        return number % 257;
+    case 2:
+        return wires - 1 - number % 8;
+    }
+    return number % wires;
+}
+
+uint64_t take_entry(struct input *in)
+{
+    uint64_t times = take(in, 1) % 16;
+    return times <= 8 ? times * P + take(in, 1) % 4 - 1 : take(in, 8);
 }
 
 uint8_t *room(void)
@@ -74,4 +93,18 @@ uint64_t entry(const uint8_t *assignment, size_t wire)
 uint64_t bit(const uint8_t *bytes, size_t number)
 {
     return bytes[number / 8] >> (7 - number % 8) & 1;
+}
+
+const uint8_t *terms(const uint8_t *at, unsigned count, uint64_t wires)
+{
+    int64_t before = -1;
+    for (unsigned k = 0; k < count; k++, at += 12) {
+        uint32_t wire;
+        uint64_t coefficient;
+        memcpy(&wire, at, 4);
+        memcpy(&coefficient, at + 4, 8);
+        MUST(wire > before && wire < wires && coefficient > 0 && coefficient < P);
+        before = wire;
+    }
+    return at;
 }

@@ -22,6 +22,12 @@ uint64_t take_near(struct input *in, uint64_t centre);
 /* A size that is right, or one near it. */
 size_t take_size(struct input *in, int near, size_t exact);
 
+/* A wire below so many: one of the first 257, one of the last 8, or any. */
+uint64_t take_wire(struct input *in, uint64_t wires);
+
+/* An entry: a number beside a multiple of p, or any. */
+uint64_t take_entry(struct input *in);
+
 /* ---- Slices between pages that cannot be touched. ---- */
 
 enum { PAGE = 4096, ROOM = 3 << 20 };
@@ -37,10 +43,16 @@ int filled(const uint8_t *bytes, size_t length);
 
 /* ---- What is read in a slice ---- */
 
+/* Entries are read modulo this prime. */
+static const uint64_t P = ((uint64_t)1 << 61) - 1;
+
 /* A wire's entry of an assignment. */
 uint64_t entry(const uint8_t *assignment, size_t wire);
 
 /* A bit of a record, of a digest or of packed bytes, the highest of a byte first. */
 uint64_t bit(const uint8_t *bytes, size_t number);
+
+/* The terms of one sum of a row, which must have rising wires and coefficients from 1 to p - 1; where they end. */
+const uint8_t *terms(const uint8_t *at, unsigned count, uint64_t wires);
 
 #endif

@@ -270,9 +270,7 @@ static void seal(struct input *in)
 /* An entry takes another value, mostly one beside a multiple of p. */
 static void change_entry(struct input *in, uint8_t *assignment, size_t size)
 {
-    static const uint64_t P = ((uint64_t)1 << 61) - 1;
-    uint64_t wire = take(in, 1) % 4 == 0 ? take(in, 2) % 257 : take(in, 3), times = take(in, 1) % 16;
-    uint64_t value = times <= 8 ? times * P + take(in, 1) % 4 - 1 : take(in, 8);
+    uint64_t wire = take(in, 1) % 4 == 0 ? take(in, 2) % 257 : take(in, 3), value = take_entry(in);
     memcpy(assignment + 8 * (wire % (size / 8)), &value, 8);
 }
 

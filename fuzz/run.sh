@@ -1,6 +1,7 @@
 #!/bin/sh
 # Fuzzes with libFuzzer and ASan, for some seconds each: fuzz/run.sh [SECONDS], 60 without it.
-#   entry   the six functions of the row library's archive;
+#   entry   the six functions of the row library's archive that take a record's bits;
+#   axles   its three for axles between two bounds;
 #   passage the four functions of the passage product's archive, beside the row library;
 #   line    the line that the programs `rows` and `steps` read, and the shape of what they print;
 #   packed  the line and the bytes that the program `packed` reads, and what it prints.
@@ -41,13 +42,15 @@ build() {
 # clang's runtime for the sanitizers is a package of its own on some systems.
 build entry "$root/fuzz/lent.c" "$archive" 2> /dev/null ||
     { install "libclang-rt-$(clang -dumpversion | cut -d. -f1)-dev" && build entry "$root/fuzz/lent.c" "$archive"; }
+build axles "$root/fuzz/lent.c" "$archive"
 build passage "$root/fuzz/lent.c" "$passage" "$archive"
 build line "$root/fuzz/program.c" "$work/rows.o" "$work/steps.o"
 build packed "$root/fuzz/program.c" "$work/packed.o" "$archive"
 
-# One input for each function, some for records of 37, 447, 448 and 8,127 bits and for their refusals, and some lines, to
-# begin with; claims to `packed` are made by its harness.
-mkdir -p "$work/entry.corpus" "$work/passage.corpus" "$work/line.corpus" "$work/packed.corpus"
+# One input for each function, some for records of 37, 447, 448 and 8,127 bits and for their refusals, some for axles
+# outside their bounds and claims for other bounds, and some lines, to begin with; claims to `packed` are made by its
+# harness.
+mkdir -p "$work/entry.corpus" "$work/axles.corpus" "$work/passage.corpus" "$work/line.corpus" "$work/packed.corpus"
 printf '\000\000\000\030\000\040\000\000\000abcabc' > "$work/entry.corpus/digest"
 printf '\000\000\000\045\000\040\000\000\000abcde' > "$work/entry.corpus/inside"
 printf '\000\000\000\045\300\040\000\000\000abcde' > "$work/entry.corpus/bytes"
@@ -61,6 +64,17 @@ printf '\002\166\007\000\200\000\000\000abcde' > "$work/entry.corpus/longest"
 printf '\003\000\000\045\000\001\000\000\002\001\000\003abcabc' > "$work/entry.corpus/check"
 printf '\004\000\000\045\000\001\000\000\002\001\000\003abcabc' > "$work/entry.corpus/pack"
 printf '\005\000\000\045\000\005\200\000' > "$work/entry.corpus/unpack"
+printf '\000\000\003\000\002\003\041\000\000abc' > "$work/axles.corpus/row"
+printf '\000\000\003\000\002\003\140\240\000\000abc' > "$work/axles.corpus/no-row"
+printf '\001\000\003\000\002\003\000\000abc' > "$work/axles.corpus/produce"
+printf '\001\000\003\000\002\003\350\000abc' > "$work/axles.corpus/bytes"
+printf '\001\000\003\240\320\003\000\004\000\000abc' > "$work/axles.corpus/wide"
+printf '\001\000\003\000\000\003\000\000abc' > "$work/axles.corpus/outside"
+printf '\001\341\003\000\002\003\000\000abc' > "$work/axles.corpus/no-digit"
+printf '\002\000\003\000\002\003\000\000abc' > "$work/axles.corpus/check"
+printf '\002\000\003\000\002\003\001\000\001\003\000abc' > "$work/axles.corpus/other-bounds"
+printf '\002\000\003\000\002\003\001\000\001\003\001\120\000\001abc' > "$work/axles.corpus/made-to-fit"
+printf '\002\000\363\002\000\002\003\000\000abc' > "$work/axles.corpus/high-half"
 printf '\000\000\004abcdefghijklmnopqrstuvwxyz0123456789' > "$work/passage.corpus/read"
 printf '\000\206\004abcdefghijklmnopqrstuvwxyz0123456789' > "$work/passage.corpus/wrong"
 printf '\001\000\000\004abcdefghijklmnopqrstuvwxyz0123456789' > "$work/passage.corpus/write"
@@ -77,7 +91,7 @@ printf '\000\200\200%s,%064d\n' 0 0 > "$work/packed.corpus/empty"
 # In the folder of the work, where a crashing input is then written. A claim of one block to `packed` has up to 75 + 2,881
 # bytes, and inputs are that long from the start.
 cd "$work"
-for harness in entry passage line packed; do
+for harness in entry axles passage line packed; do
     case $harness in
     packed) sizes='-max_len=3100 -len_control=0' ;;
     *) sizes=-max_len=1200 ;;

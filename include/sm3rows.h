@@ -1,11 +1,16 @@
-/* SM3 record rows over the prime p = 2^61 - 1: the six operations for a C host.
+/* SM3 record rows over the prime p = 2^61 - 1: the nine operations for a C host.
  *
  * A record is a string of `bits` bits, 0 to 8,127. It is handed over in bits / 8 bytes, rounded up: its first bit is the
  * highest of the first byte, and the low bits of the last byte that it does not reach are zero. A record of whole bytes
  * has 8 x bytes bits. The number is compared as it comes, 64 bits wide.
  *
+ * Three of the operations are of another circuit, axles between two bounds. Its record has 504 bits, the length of a
+ * passage line; bytes 17 and 18 are digits, the tens and the units of the axles, which lie within the bounds, ends
+ * included. Bounds are from 2 to 99; they too are compared as they come.
+ *
  * The answer of every call is one 64-bit number. Its low byte is the refusal's number, 0 for none. What stands above it:
- *   - sm3rows_row without a refusal: how many terms A, B and C have, in bits 8 to 15, 16 to 23 and 24 to 31;
+ *   - sm3rows_row and sm3rows_axles_row without a refusal: how many terms A, B and C have, in bits 8 to 15, 16 to 23
+ *     and 24 to 31;
  *   - refusal 9: the lowest row that is not satisfied, from bit 8 on;
  *   - refusal 10: the lowest wire whose entry is no bit, from bit 8 on;
  *   - otherwise 0.
@@ -13,8 +18,10 @@
  * Refusals, in the order in which they are looked for. A call skips those that it has no argument for. A refused call
  * changes no byte.
  *   2  the record length is above 8,127 bits
- *  13  the record's bytes are not the bits over 8 rounded up
+ *  13  the record's bytes are not the bits over 8 rounded up; for axles, they are not 63
  *  14  a bit after the last record bit is set: one of the low 8 x bytes - bits bits of the last byte
+ *  18  a bound is outside 2 to 99, or the lower one is above the upper
+ *  19  byte 17 or 18 of the record is no digit, or the axles are outside the bounds (sm3rows_axles_produce alone)
  *   3  the row number is not below the row count
  *   4  the buffer to be written is shorter than 32 bytes (digest), 1,956 (row), 8 x wires (assignment) or
  *      65 + 2,816 x blocks (packed bytes)
@@ -57,6 +64,15 @@ extern "C" {
 #define SM3ROWS_ASSIGNMENT_BYTES(bits) (8 * SM3ROWS_WIRES(bits))
 #define SM3ROWS_PACKED_BYTES(bits) (65 + 2816 * SM3ROWS_BLOCKS(bits))
 
+/* The bounds that axles may be held between, and sizes for a record whose axles are. */
+#define SM3ROWS_LEAST_AXLES 2u
+#define SM3ROWS_MOST_AXLES 99u
+#define SM3ROWS_AXLES_BITS 504u
+#define SM3ROWS_AXLES_RECORD_BYTES 63u
+#define SM3ROWS_AXLES_WIRES 45591u
+#define SM3ROWS_AXLES_ROWS 65186u
+#define SM3ROWS_AXLES_ASSIGNMENT_BYTES (8 * SM3ROWS_AXLES_WIRES)
+
 /* The parts of an answer. */
 #define SM3ROWS_REFUSAL(answer) ((unsigned)((answer) & 0xff))
 #define SM3ROWS_COUNT_A(answer) ((unsigned)((answer) >> 8 & 0xff))
@@ -91,6 +107,25 @@ uint64_t sm3rows_pack(uint64_t bits, const uint8_t *assignment, size_t assignmen
 /* The way back: the assignment of packed bytes into the first 8 x wires bytes of out, laid out as by sm3rows_produce.
  * Bytes of out past it keep their value. Refusals 2, 4, 11, 12. */
 uint64_t sm3rows_unpack(uint64_t bits, const uint8_t *packed, size_t packed_len, uint8_t *out, size_t out_len);
+
+/* ---- Axles between two bounds: the wires and rows of a record of 504 bits, and behind them 22 wires and 34 rows ---- */
+
+/* Row number `row` for axles between these bounds into out, laid out as by sm3rows_row. Bytes of out past the terms
+ * keep their value. Refusals 18, 3, 4. */
+uint64_t sm3rows_axles_row(uint64_t lower, uint64_t upper, uint64_t row, uint8_t *out, size_t out_len);
+
+/* The whole assignment of the record for axles between these bounds into the first 8 x 45,591 bytes of out, laid out
+ * as by sm3rows_produce. Bytes of out past it keep their value. Of the record bytes 17 and 18 alone are asked: it need
+ * not be a passage line. The digest that the assignment is accepted against stands in it, wires 1 to 256; it is the one
+ * that sm3rows_digest gives for the record and 504 bits. Refusals 13, 18, 19, 4. */
+uint64_t sm3rows_axles_produce(uint64_t lower, uint64_t upper, const uint8_t *record, size_t record_len, uint8_t *out,
+                               size_t out_len);
+
+/* Whether the assignment, its entries read modulo p, satisfies every row for axles between these bounds and has this
+ * digest. 0 when it does: then some record of 63 bytes has this digest, its bytes 17 and 18 are digits, and the axles
+ * lie within the bounds. Nothing else of the record is said by that. Refusals 18, 5, 6, 7, 8, 9. */
+uint64_t sm3rows_axles_check(uint64_t lower, uint64_t upper, const uint8_t *digest, size_t digest_len,
+                             const uint8_t *assignment, size_t assignment_len);
 
 #ifdef __cplusplus
 }

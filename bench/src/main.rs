@@ -2,6 +2,7 @@
 //! and of libpassage_c.a beside plain C and libsm3rows.a, in one run:
 //! `bench [--runs N] [--csv FILE] [--program FILE] [--without FEATURE]`.
 
+mod axles;
 mod baseline;
 mod inside;
 mod libgcrypt;
@@ -230,6 +231,8 @@ fn measure_all(runs: u32) -> Vec<Figure> {
         packing::pack_shifted(&OTHER_CLAIMS, runs),
     ];
     packing.into_iter().flatten().for_each(&mut take);
+    let axles = [axles::row(runs), axles::produce(runs), axles::check(runs)];
+    axles.into_iter().for_each(&mut take);
     let passages = [
         passages::read(runs),
         passages::read_wrong(runs),
