@@ -1,0 +1,6 @@
+pub mod Band
+pub mod Check
+pub mod Exact
+pub mod Layout
+pub mod Produce
+pub mod RowAnswer
