@@ -1,2 +1,6 @@
+pub mod Accepted
 pub mod Bands
+pub mod Congruent
 pub mod Counts
+pub mod exact
+pub mod Exactness

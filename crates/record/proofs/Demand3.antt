@@ -43,7 +43,7 @@ module _ (n : ℕ) (r a : List ℕ) (wires : HasWires n r a) where
   digest-wires : (k : ℕ) → k < 256 → entry a (1 + k) ≡ bitOfBytes (digestBytes n r) k
   digest-wires k l = digest-agrees n (entry a) (bitOfBytes r) agree k l ∙ sym (bit-of-digest n r k l)
 
-  record-accepted : n ≤ mostBits → length a ≡ 8 * wireCount (Record n) → IsAccepted n (digestBytes n r) a
+  pub record-accepted : n ≤ mostBits → length a ≡ 8 * wireCount (Record n) → IsAccepted n (digestBytes n r) a
   unfolding rowAt wireCount
   record-accepted range long =
       let bits : (k : ℕ) → k < n → bitOfBytes r k < 2 = λ k l. bit-of-bytes-lt r k in
@@ -96,7 +96,7 @@ module _ (n : ℕ) (d a : List ℕ) (accepted : IsAccepted n d a) where
       wires-congruent n _ _ (packed-bit n readBits bits-read) in
       accepted-wires w l ∙ ap (λ s. s w) (sym same)
 
-  accepted-record : Bytes d → (r : List ℕ) × IsRecord n r × (digestBytes n r ≡ d) × HasWires n r a
+  pub accepted-record : Bytes d → (r : List ℕ) × IsRecord n r × (digestBytes n r ≡ d) × HasWires n r a
   accepted-record h = (
     readRecord,
     is-record,

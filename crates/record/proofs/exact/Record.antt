@@ -34,7 +34,7 @@ pub record-wire : (i j : ℕ) → j < 512 → recordWire (512 * i + j) ≡ block
 unfolding recordWire
 record-wire i j l = omega arith
 
-wire-of-record : (n : ℕ) (r : ℕ → ℕ) (k : ℕ) → k < n → wireOf n r (recordWire k) ≡ r k
+pub wire-of-record : (n : ℕ) (r : ℕ → ℕ) (k : ℕ) → k < n → wireOf n r (recordWire k) ≡ r k
 unfolding wireOf frameWires messageWires blockWires blockBits recordWire
 wire-of-record n r k l =
     let w : ℕ = wiresPerBlock * (k / 512) + k % 512 in
@@ -48,7 +48,7 @@ wire-of-record n r k l =
     ∙ ap (message n r) (div-add-mod k 512)
     ∙ message-content n r k l
 
-record-wire-lt : (n k : ℕ) → k < n → recordWire k < wireCount (Record n)
+pub record-wire-lt : (n k : ℕ) → k < n → recordWire k < wireCount (Record n)
 unfolding wireCount recordWire blocks
 record-wire-lt n k l = omega arith
 

@@ -24,7 +24,7 @@ either : (t : Bool) (x y : ℕ) → x < 2 → y < 2 → cond t x y < 2
 either true x y hx hy = hx
 either false x y hx hy = hy
 
-beside-bits : (n : ℕ) (s t : ℕ → ℕ) → Bits s → Bits t → Bits (beside n s t)
+pub beside-bits : (n : ℕ) (s t : ℕ → ℕ) → Bits s → Bits t → Bits (beside n s t)
 unfolding beside
 beside-bits n s t hs ht k = either (ltb k n) (s k) (t (k - n)) (hs k) (ht (k - n))
 
