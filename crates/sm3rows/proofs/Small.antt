@@ -8,13 +8,19 @@ use native.Mathlib.Omega.{arith}
 use borrow.Author.Tests.{leb-false, ltb-false}
 use lib.Dec.{eqb, leb, lit<, ltb}
 use lib.ListN.{length, length-append}
+use Rattle.axles.specs.Band.{inBand}
+use Rattle.axles.specs.Check.{axlesCheckAnswer}
+use Rattle.axles.specs.Produce.{axlesProduceAnswer}
+use Rattle.axles.specs.RowAnswer.{axlesRowAnswer}
+use Rattle.circuit.proofs.axles.Bounds.{bounds-iff}
 use Rattle.circuit.proofs.shape.Shape.{shape}
+use Rattle.circuit.specs.Axles.{boundsInRange}
 use Rattle.circuit.specs.Circuit.{rowAt}
 use Rattle.circuit.specs.GivenRow.{counted, givenRow, rowBytes}
 use Rattle.circuit.specs.Places.{rowCount}
 use Rattle.circuit.specs.Ranges.{Allowed}
 use Rattle.circuit.specs.Wires.{wireCount}
-use Rattle.circuit.specs.declared.circuits.Circuit.the-variants.{Record}
+use Rattle.circuit.specs.declared.circuits.Circuit.the-variants.{Axles, Record}
 use Rattle.circuit.specs.declared.circuits.Circuit.{Circuit}
 use Rattle.encoding.proofs.Lowest.{by-lowest}
 use Rattle.encoding.specs.Packed.{packedLength, spareBits}
@@ -24,9 +30,10 @@ use Rattle.packing.specs.Unpack.{packedAnswer, unpackAnswer}
 use Rattle.record.specs.Produce.{produceAnswer}
 use Rattle.record.specs.RowAnswer.{rowAnswer}
 use Rattle.refusal.proofs.Small.{Small, bare, done-small, room-small, tested}
+use Rattle.refusal.proofs.Tests.{not-iff}
 use Rattle.refusal.specs.declared.outcome.Outcome.the-variants.{Done}
 use Rattle.refusal.specs.declared.outcome.Outcome.{Outcome}
-use Rattle.satisfaction.specs.Lowest.{lowest}
+use Rattle.satisfaction.proofs.circuit_check.Small.{check-small}
 use Rattle.sm3.specs.Digest.{digestAnswer}
 use Rattle.sm3.specs.Handed.{handedAnswer}
 use Rattle.sm3.specs.Message.{blocks, mostBits}
@@ -87,3 +94,27 @@ unpack-small n p room =
     (λ _.
     tested Small (not (eqb (length p) (packedLength (wireCount (Record n))))) (bare refl)
     (λ _. tested Small (not (eqb (spareBits (wireCount (Record n)) p) 0)) (bare refl) (λ _. done-small))))
+
+-- Between two bounds.
+
+pub axles-row-small : (lower upper k room : ℕ) → SmallRow (axlesRowAnswer lower upper k room)
+unfolding axlesRowAnswer
+axles-row-small lower upper k room =
+    tested SmallRow (not (boundsInRange lower upper)) (lit< tt)
+    (λ e. given-small (Axles lower upper) (not-iff _ (bounds-iff lower upper) .0 e) k room)
+
+pub axles-produce-small : (lower upper : ℕ) (r : List ℕ) (room : ℕ) → Small (axlesProduceAnswer lower upper r room)
+unfolding axlesProduceAnswer
+axles-produce-small lower upper r room =
+    tested Small (not (eqb (length r) 63)) (bare refl)
+    (λ _.
+    tested Small (not (boundsInRange lower upper)) (bare refl)
+    (λ _.
+    tested Small (not (inBand lower upper r)) (bare refl)
+    (λ _. room-small (ltb room (8 * wireCount (Axles lower upper))))))
+
+pub axles-check-small : (lower upper : ℕ) (d a : List ℕ) → Small (axlesCheckAnswer lower upper d a)
+unfolding axlesCheckAnswer
+axles-check-small lower upper d a =
+    tested Small (not (boundsInRange lower upper)) (bare refl)
+    (λ e. check-small (Axles lower upper) d a (not-iff _ (bounds-iff lower upper) .0 e))

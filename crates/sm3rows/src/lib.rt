@@ -2,6 +2,9 @@
 // the refusal's number and which has the values above it (docs/HOST.md).
 ghost use mathlib.Core.Path.{_≡_};
 ghost use lib.ListN.{length};
+ghost use Rattle.axles.specs.Check.{axlesCheckAnswer};
+ghost use Rattle.axles.specs.Produce.{axlesProduceAnswer, axlesProduceLeft};
+ghost use Rattle.axles.specs.RowAnswer.{axlesRowAnswer, axlesRowLeft};
 ghost use Rattle.packing.specs.Pack.{packAnswer, packLeft};
 ghost use Rattle.packing.specs.Unpack.{unpackAnswer, unpackLeft};
 ghost use Rattle.record.specs.Check.{checkAnswer};
@@ -78,4 +81,35 @@ pub extern "C" fn sm3rows_unpack(bits: u64, packed: &[u8], out: &mut [u8]) -> u6
     ensures { λ r. ⌜ now (out .exit) ≡ unpackLeft (unpackAnswer bits (now (packed .entry)) (length (now (out .entry)))) bits (now (packed .entry)) (now (out .entry)) ⌝ }
 {
     pack_outcome(packing::unpack::unpack(bits, packed, out))
+}
+
+// One row by its number, for axles between two bounds, into the front of `out`.
+#[no_mangle]
+pub extern "C" fn sm3rows_axles_row(lower: u64, upper: u64, row: u64, out: &mut [u8]) -> u64
+    ensures { λ r. ⌜ r ≡ packedRow (axlesRowAnswer lower upper row (length (now (out .entry)))) ⌝ }
+    ensures { λ r. ⌜ now (out .exit) ≡ axlesRowLeft (axlesRowAnswer lower upper row (length (now (out .entry)))) lower upper row (now (out .entry)) ⌝ }
+{
+    pack_row(axles::row::row(lower, upper, RowNumber(row), out))
+}
+
+// The whole assignment of a record with axles between two bounds, into the front of `out`.
+#[no_mangle]
+pub extern "C" fn sm3rows_axles_produce(lower: u64, upper: u64, bytes: &[u8], out: &mut [u8]) -> u64
+    ensures { λ r. ⌜ r ≡ packedOutcome (axlesProduceAnswer lower upper (now (bytes .entry)) (length (now (out .entry)))) ⌝ }
+    ensures { λ r. ⌜ now (out .exit) ≡ axlesProduceLeft (axlesProduceAnswer lower upper (now (bytes .entry)) (length (now (out .entry)))) lower upper (now (bytes .entry)) (now (out .entry)) ⌝ }
+{
+    pack_outcome(axles::produce::produce(lower, upper, bytes, out))
+}
+
+// The check of an assignment for axles between two bounds against a digest.
+#[no_mangle]
+pub extern "C" fn sm3rows_axles_check(
+    lower: u64,
+    upper: u64,
+    digest: &[u8],
+    assignment: &[u8],
+) -> u64
+    ensures { λ r. ⌜ r ≡ packedOutcome (axlesCheckAnswer lower upper (now (digest .entry)) (now (assignment .entry))) ⌝ }
+{
+    pack_outcome(axles::check::check(lower, upper, digest, assignment))
 }

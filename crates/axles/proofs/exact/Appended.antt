@@ -108,8 +108,7 @@ module _ (a : ℕ → ℕ) (J : Judged a) (r : ℕ → ℕ) (bits : (k : ℕ) �
       (and-given nine
       (λ _.
       Iff·trans (each-beside satisfied 5 16 _ _)
-      (and-given nine′ (λ _. Iff·trans (each-beside satisfied 8 8 _ _) (and-given least (λ _. most))))))))))
-      (
+      (and-given nine′ (λ _. Iff·trans (each-beside satisfied 8 8 _ _) (and-given least (λ _. most)))))))))) (
         λ (high, (high′, (nine, (nine′, (least, most))))). (
           record {
             tens-high = high;
