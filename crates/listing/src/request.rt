@@ -1,8 +1,12 @@
 // What a line asks for, or why it is refused.
 ghost use mathlib.Core.Path.{_≡_};
+ghost use Prim.Native.Nat.{_<_};
+ghost use Rattle.circuit.specs.Ranges.{Allowed};
+ghost use Rattle.listing.specs.Request as specs;
 ghost use Rattle.listing.specs.Request.{requestNumber, requestOf};
 use crate::line::Parsed;
 use crate::line::parse;
+use circuit::circuits::Circuit;
 use circuit::place::row_count;
 use refusal::numbers::RowNumber;
 use refusal::outcome::Refusal;
@@ -11,36 +15,49 @@ use sm3::message::MOST_BITS;
 
 // What a line asks for.
 pub enum Request {
-    // So many rows from `first` on, of a record of so many bits.
+    // So many rows of a circuit from `first` on.
     Rows {
-        bits: u64,
+        circuit: Circuit,
         first: RowNumber,
         many: u64,
     },
-    // Refusal 1: the line is not three numbers.
+    // Refusal 1: the line is not of its form.
     BadLine,
     // Refusal 2 or 3.
     Refused(Refusal),
+}
+
+// So many rows of a circuit from `first` on, if there are so many.
+fn within(circuit: Circuit, first: u64, many: u64) -> Request
+    requires { ⌜ Allowed circuit × (first < 1000000000) × (many < 1000000000) ⌝ }
+    ensures { λ r. ⌜ r ≡ specs.within circuit first many ⌝ }
+{
+    if row_count(circuit) < first + many {
+        return Request::Refused(Refusal::RowOutOfRange);
+    }
+    Request::Rows {
+        circuit,
+        first: RowNumber(first),
+        many,
+    }
 }
 
 // What a line asks for, by the refusals in their order.
 pub fn request_of(line: &[u8]) -> Request
     ensures { λ r. ⌜ r ≡ requestOf (now (line .entry)) ⌝ }
 {
-    let Parsed::Numbers { bits, first, many } = parse(line) else {
+    let Parsed::Numbers {
+        leading,
+        first,
+        many,
+    } = parse(line)
+    else {
         return Request::BadLine;
     };
-    if MOST_BITS < bits {
+    if MOST_BITS < leading {
         return Request::Refused(Refusal::LengthAboveLimit);
     }
-    if row_count(bits) < first + many {
-        return Request::Refused(Refusal::RowOutOfRange);
-    }
-    Request::Rows {
-        bits,
-        first: RowNumber(first),
-        many,
-    }
+    within(Circuit::Record { bits: leading }, first, many)
 }
 
 // The number of a refusal, 0 for none.
@@ -49,7 +66,7 @@ pub fn refusal_number(request: Request) -> u64
 {
     match request {
         Request::Rows {
-            bits: _,
+            circuit: _,
             first: _,
             many: _,
         } => 0,
