@@ -19,12 +19,12 @@ use Rattle.listing.specs.Request.{requestOf}
 use Rattle.listing.specs.declared.progress.Listing.{Listing}
 use Rattle.listing.specs.declared.progress.Progress.{Progress}
 use Rattle.listing.specs.declared.progress.Progress.the-variants.{Begun, Done, Lines}
+use Rattle.listing.specs.declared.request.Front.{Front}
 use Rattle.listing.specs.declared.request.Request.{Request}
 use Rattle.listing.specs.declared.request.Request.the-variants.{BadLine, Refused, Rows}
 use Rattle.listing.proofs.Chunks.{fitting-le, fitting-more}
-use Rattle.listing.proofs.LineRight.{long-wrong}
 use Rattle.listing.proofs.Lines.{lines-split}
-use Rattle.listing.proofs.Requests.{malformed}
+use Rattle.listing.proofs.Requests.{long-bad}
 
 -- what is still to be printed, and a bound on how many chunks that takes
 abbrev rest : Listing → Progress → List ℕ
@@ -108,19 +108,19 @@ module _ (l : Listing) (n : ℕ) where
       by false some = (exist .0, omega (arith, exist .1))
   possible-next Done exist = tt
 
--- a line of more than 30 bytes is refused, whatever stands behind them
-enough : (m : ℕ) (s : List ℕ) → 31 ≤ m → requestOf (take m s) ≡ requestOf s
-enough m s most = by (decLt m (length s))
+-- a line of more than 40 bytes is refused, whatever stands behind them
+enough : (t : Front) (m : ℕ) (s : List ℕ) → 41 ≤ m → requestOf t (take m s) ≡ requestOf t s
+enough t m s most = by (decLt m (length s))
   where
-    by : Dec (m < length s) → requestOf (take m s) ≡ requestOf s
+    by : Dec (m < length s) → requestOf t (take m s) ≡ requestOf t s
     by (yes longer) =
         let read : length (take m s) ≡ m = length-take-le m s (omega arith) in
-        malformed (take m s) (long-wrong (take m s) (omega arith)) ∙ sym (malformed s (long-wrong s (omega arith)))
-    by (no all) = ap requestOf (take-all m s (omega arith))
+        long-bad t (take m s) (omega arith) ∙ sym (long-bad t s (omega arith))
+    by (no all) = ap (requestOf t) (take-all m s (omega arith))
 
 pub prints-all : PrintsAll
 unfolding prints
-prints-all l n m s space most =
-    let q = requestOf (take m s) in
-    subst (λ (r : Request). Run l n (Begun q) (printed l r)) (enough m s most)
+prints-all l t n m s space most =
+    let q = requestOf t (take m s) in
+    subst (λ (r : Request). Run l n (Begun q) (printed l r)) (enough t m s most)
     (runs l n space (left (Begun q) + 1) (Begun q) (omega arith))

@@ -1,4 +1,4 @@
--- What `rows` and `steps` print (document 01, "What `rows` prints"; docs/STEPS.md).
+-- What `rows` and `steps`, `axle_rows` and `axle_steps` print (document 01, "What `rows` prints"; docs/STEPS.md).
 use mathlib.Core.List.{List, [], _++_}
 use Prim.Native.Nat.{ℕ, zero, suc, _+_}
 use Rattle.circuit.specs.declared.circuits.Circuit.{Circuit}
@@ -9,6 +9,7 @@ use Rattle.listing.specs.Rows.{rowLines}
 use Rattle.listing.specs.Steps.{stepLine}
 use Rattle.listing.specs.declared.progress.Listing.{Listing}
 use Rattle.listing.specs.declared.progress.Listing.the-variants as listing
+use Rattle.listing.specs.declared.request.Front.{Front}
 use Rattle.listing.specs.declared.request.Request.{Request}
 use Rattle.listing.specs.declared.request.Request.the-variants.{BadLine, Refused, Rows}
 
@@ -33,6 +34,6 @@ printed l (Rows c f h) = header l ++ linesFrom (lines l c) (f .0) h
 printed l BadLine = refused (requestNumber BadLine)
 printed l (Refused r) = refused (requestNumber (Refused r))
 
--- what a program prints for the bytes s of standard input
-unfoldable pub prints : Listing → List ℕ → List ℕ
-prints l s = printed l (requestOf s)
+-- what a program prints for the bytes s of standard input, with t at the front of its line
+unfoldable pub prints : Listing → Front → List ℕ → List ℕ
+prints l t s = printed l (requestOf t s)

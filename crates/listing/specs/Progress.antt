@@ -20,6 +20,7 @@ use Rattle.listing.specs.declared.progress.Listing.{Listing}
 use Rattle.listing.specs.declared.progress.Listing.the-variants as listing
 use Rattle.listing.specs.declared.progress.Progress.{Progress}
 use Rattle.listing.specs.declared.progress.Progress.the-variants.{Begun, Done, Lines}
+use Rattle.listing.specs.declared.request.Front.{Front}
 use Rattle.listing.specs.declared.request.Request.the-variants.{BadLine, Refused, Rows}
 
 -- how many bytes the lines of a row take at most
@@ -85,4 +86,7 @@ pub data Run (l : Listing) (n : ℕ) : Progress → List ℕ → Type 0 where
 -- Of standard input s at most m bytes are read; begun with them, the loop ends and prints what is to be printed for s.
 abbrev pub PrintsAll : Type 0
 PrintsAll =
-    (l : Listing) (n m : ℕ) (s : List ℕ) → room l ≤ n → 31 ≤ m → Run l n (Begun (requestOf (take m s))) (prints l s)
+    (l : Listing) (t : Front) (n m : ℕ) (s : List ℕ)
+    → room l ≤ n
+    → 41 ≤ m
+    → Run l n (Begun (requestOf t (take m s))) (prints l t s)

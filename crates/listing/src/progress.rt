@@ -9,6 +9,7 @@ ghost use Rattle.listing.specs.Listing.{header, lines};
 ghost use Rattle.listing.specs.Progress.{Handed, Possible, RowsExist, room, unfinished};
 ghost use Rattle.listing.specs.Request.{requestOf};
 ghost use Rattle.text.specs.Put.{Put};
+use crate::request::Front;
 use crate::request::Request;
 use crate::request::refusal_number;
 use crate::request::request_of;
@@ -21,7 +22,7 @@ use refusal::numbers::RowNumber;
 use text::literal::put_through;
 use text::refused::put_refusal;
 
-// The two programs' listings.
+// The programs' two listings.
 pub enum Listing {
     // The terms of each row.
     Rows,
@@ -50,10 +51,10 @@ pub struct Chunk {
 }
 
 // What is to be printed for the bytes of standard input.
-pub fn begin(line: &[u8]) -> Progress
-    ensures { λ r. ⌜ (r ≡ Progress.Begun (requestOf (now (line .entry)))) × Possible r ⌝ }
+pub fn begin(front: Front, line: &[u8]) -> Progress
+    ensures { λ r. ⌜ (r ≡ Progress.Begun (requestOf front (now (line .entry)))) × Possible r ⌝ }
 {
-    Progress::Begun(request_of(line))
+    Progress::Begun(request_of(front, line))
 }
 
 // Whether there is something to print.

@@ -1,61 +1,37 @@
--- A line that is read has numbers below 1,000,000,000; a length in range is that of a circuit that is allowed.
-use mathlib.Core.List.{List}
+-- Each front has its own line.
 use mathlib.Core.Path.{_≡_, sym, ap, _∙_}
-use Prim.Native.Nat.{ℕ}
 use borrow.Author.Needs.{needs}
-use borrow.Author.Tests.{le-ltb, lt-ltb}
-use Rattle.listing.specs.Line.{parseOf}
-use Rattle.listing.specs.Request.{asked, checked, requestOf}
-use Rattle.listing.specs.declared.line.Parsed.the-variants.{Numbers}
-use Rattle.listing.proofs.LineRight.{parse-right}
+use Rattle.listing.specs.Request.{requestOf}
 use Rattle.listing.proofs.request.request_of.Statement.{statement}
 use Rattle.listing.proofs.request.request_of.Tie as tie
-
-parse-requires : tie.Need-parse-requires
-parse-requires c κs = search needs
-
-enum-known-leading : tie.Need-enum-known-leading
-enum-known-leading c = search needs
 
 enum-told : tie.Need-enum-told
 enum-told c = search needs
 
+record-request-requires : tie.Need-record-request-requires
+record-request-requires c κs = search needs
+
+enum-told-2 : tie.Need-enum-told-2
+enum-told-2 c = search needs
+
+axle-request-requires : tie.Need-axle-request-requires
+axle-request-requires c κs = search needs
+
 returns : tie.Need-returns
 unfolding requestOf
-returns c = sym (ap asked (sym (c .before .before .parse .ensures) ∙ c .enum-told .given .1))
-
-abbrev Line : tie.After-known-told → List ℕ
-Line c = c .before .before .before .before .before .args .line .now
-
-numbers :
-    (c : tie.After-known-told)
-    → parseOf (Line c)
-    ≡ Numbers (c .before .leading .given .0 .0) (c .before .leading .given .0 .1 .0) (c .before .leading .given .0 .1 .1 .0)
-numbers c = sym (c .before .before .before .parse .ensures) ∙ c .before .leading .given .1
+returns c = rw (c .before .enum-told .given .1) (c .record-request .ensures)
 
 returns-2 : tie.Need-returns-2
-unfolding requestOf checked
-returns-2 c = sym (ap asked (numbers (c .before)) ∙ rw (lt-ltb _ _ (c .if1 .taken)))
-
-within-requires : tie.Need-within-requires
-within-requires c κs =
-    let right = parse-right (Line (c .before)) _ _ _ .0 (numbers (c .before)) in
-    (c .if1 .left, right .1, right .2)
-
-returns-3 : tie.Need-returns-3
-unfolding requestOf checked
-returns-3 c =
-    let past = c .before in
-    c .within .ensures ∙ sym (ap asked (numbers (past .before)) ∙ rw (le-ltb _ _ (past .if1 .left)))
+unfolding requestOf
+returns-2 c = rw (c .before .enum-told2 .given .1) (c .axle-request .ensures)
 
 pub request-of-spec : {M : Type 1} → statement M
 request-of-spec =
     tie.close
     (tie.spec
-    parse-requires
-    enum-known-leading
     enum-told
+    record-request-requires
+    enum-told-2
+    axle-request-requires
     returns
-    returns-2
-    within-requires
-    returns-3)
+    returns-2)
