@@ -1,9 +1,10 @@
-// What `rows` prints for lines that the program holds, one after the other: right ones, and some for each refusal.
+// What `rows` and `axle_rows` print for lines that the program holds, one after the other: right ones, and some for each refusal.
 use listing::program::print_listing;
 use listing::progress::Listing;
 use listing::request::Front;
 
-fn main() {
+// Lines with a length at the front.
+fn record_lines() {
     // How many may be 0, also where the first row is the count.
     print_listing(Listing::Rows, Front::Length, b"0,0,0\n");
     print_listing(Listing::Rows, Front::Length, b"0,32832,0\n");
@@ -39,4 +40,42 @@ fn main() {
     print_listing(Listing::Rows, Front::Length, b"0,32832,1\n");
     print_listing(Listing::Rows, Front::Length, b"447,32832,1\n");
     print_listing(Listing::Rows, Front::Length, b"0,32833,0\n");
+}
+
+// Lines with two bounds at the front.
+fn axle_lines() {
+    // How many may be 0, also where the first row is the count.
+    print_listing(Listing::Rows, Front::Bounds, b"2,99,0,0\n");
+    print_listing(Listing::Rows, Front::Bounds, b"2,2,65186,0\n");
+    // The last bit of the record and the first padding bit; the last row of the digest and the first that is appended.
+    print_listing(Listing::Rows, Front::Bounds, b"2,5,759,2\n");
+    print_listing(Listing::Rows, Front::Bounds, b"2,5,65151,2\n");
+    // The row of docs/LAYOUT.md, 9 less the tens, and the last row, under other bounds.
+    print_listing(Listing::Rows, Front::Bounds, b"2,5,65177,1\n");
+    print_listing(Listing::Rows, Front::Bounds, b"3,3,65164,1\n");
+    print_listing(Listing::Rows, Front::Bounds, b"99,99,65185,1\n");
+    // Refusal 1: a leading zero, ten digits, three numbers, five, something after the line feed; four numbers where a length is to
+    // stand at the front.
+    print_listing(Listing::Rows, Front::Bounds, b"02,5,0,0\n");
+    print_listing(Listing::Rows, Front::Bounds, b"2,1000000000,0,0\n");
+    print_listing(Listing::Rows, Front::Bounds, b"1,5,0\n");
+    print_listing(Listing::Rows, Front::Bounds, b"2,5,0,0,0\n");
+    print_listing(Listing::Rows, Front::Bounds, b"2,5,0,0\n\n");
+    print_listing(Listing::Rows, Front::Length, b"2,5,0,0\n");
+    // Refusals 18 and 3, the first of them where both hold.
+    print_listing(Listing::Rows, Front::Bounds, b"1,5,0,0\n");
+    print_listing(Listing::Rows, Front::Bounds, b"2,100,0,0\n");
+    print_listing(Listing::Rows, Front::Bounds, b"6,5,65186,1\n");
+    print_listing(
+        Listing::Rows,
+        Front::Bounds,
+        b"999999999,999999999,999999999,999999999\n",
+    );
+    print_listing(Listing::Rows, Front::Bounds, b"5,5,65186,1\n");
+    print_listing(Listing::Rows, Front::Bounds, b"2,99,65187,0\n");
+}
+
+fn main() {
+    record_lines();
+    axle_lines();
 }
