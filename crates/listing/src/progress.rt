@@ -184,8 +184,8 @@ pub fn next_chunk(listing: Listing, progress: Progress, out: &mut [u8], terms: &
         Progress::Lines {
             circuit,
             next,
-            many,
-        } => fill(listing, circuit, next, many, out, terms),
+            many: left,
+        } => fill(listing, circuit, next, left, out, terms),
         Progress::Done => Chunk {
             bytes: 0,
             next: Progress::Done,

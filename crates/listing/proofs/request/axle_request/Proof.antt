@@ -1,5 +1,5 @@
 -- A line that is read has numbers below 1,000,000,000; bounds in range are those of a circuit that is allowed.
-use mathlib.Core.Bool.{true}
+use mathlib.Core.Bool.{false, true}
 use mathlib.Core.List.{List}
 use mathlib.Core.Path.{_≡_, sym, ap, _∙_}
 use Prim.Native.Nat.{ℕ}
@@ -32,22 +32,27 @@ bounds-in-range-requires c κs = search needs
 abbrev Line : tie.After-known-told → List ℕ
 Line c = c .before .before .before .before .before .args .line .now
 
+-- its bounds
+abbrev Lower : tie.After-known-told → ℕ
+Lower c = c .before .lower .given .0 .0
+
+abbrev Upper : tie.After-known-told → ℕ
+Upper c = c .before .lower .given .0 .1 .0
+
 numbers :
     (c : tie.After-known-told)
     → parseAxlesOf (Line c)
-    ≡ FourNumbers (c .before .lower .given .0 .0) (c .before .lower .given .0 .1 .0) (c .before .lower .given .0 .1 .1 .0)
-    (c .before .lower .given .0 .1 .1 .1 .0)
+    ≡ FourNumbers (Lower c) (Upper c) (c .before .lower .given .0 .1 .1 .0) (c .before .lower .given .0 .1 .1 .1 .0)
 numbers c = sym (c .before .before .before .parse-axles .ensures) ∙ c .before .lower .given .1
+
+outside : (c : tie.Then1) → boundsInRange (Lower (c .before .before)) (Upper (c .before .before)) ≡ false
+outside c = sym (c .before .bounds-in-range .ensures) ∙ not-true (c .before .bounds-in-range .result) (c .if1 .taken)
 
 returns-2 : tie.Need-returns-2
 unfolding checkedAxles
-returns-2 c =
-    let tested = c .before in
-    let outside = sym (tested .bounds-in-range .ensures) ∙ not-true (tested .bounds-in-range .result) (c .if1 .taken) in
-    sym (ap askedAxles (numbers (tested .before)) ∙ rw outside)
+returns-2 c = sym (ap askedAxles (numbers (c .before .before)) ∙ rw (outside c))
 
--- past the test
-inside : (c : tie.Else1) → boundsInRange (c .before .before .before .lower .given .0 .0) (c .before .before .before .lower .given .0 .1 .0) ≡ true
+inside : (c : tie.Else1) → boundsInRange (Lower (c .before .before)) (Upper (c .before .before)) ≡ true
 inside c = sym (c .before .bounds-in-range .ensures) ∙ not-false (c .before .bounds-in-range .result) (c .if1 .left)
 
 within-requires : tie.Need-within-requires

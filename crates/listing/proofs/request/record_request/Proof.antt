@@ -1,9 +1,10 @@
 -- A line that is read has numbers below 1,000,000,000; a length in range is that of a circuit that is allowed.
 use mathlib.Core.List.{List}
 use mathlib.Core.Path.{_≡_, sym, ap, _∙_}
-use Prim.Native.Nat.{ℕ}
+use Prim.Native.Nat.{ℕ, _<_}
 use borrow.Author.Needs.{needs}
 use borrow.Author.Tests.{le-ltb, lt-ltb}
+use Rattle.sm3.specs.Message.{mostBits}
 use Rattle.listing.specs.Line.{parseOf}
 use Rattle.listing.specs.Request.{asked, checked}
 use Rattle.listing.specs.declared.line.Parsed.the-variants.{Numbers}
@@ -26,15 +27,21 @@ returns c = sym (ap asked (sym (c .before .before .parse .ensures) ∙ c .enum-t
 abbrev Line : tie.After-known-told → List ℕ
 Line c = c .before .before .before .before .before .args .line .now
 
+-- its length
+abbrev Bits : tie.After-known-told → ℕ
+Bits c = c .before .leading .given .0 .0
+
 numbers :
     (c : tie.After-known-told)
     → parseOf (Line c)
-    ≡ Numbers (c .before .leading .given .0 .0) (c .before .leading .given .0 .1 .0) (c .before .leading .given .0 .1 .1 .0)
+    ≡ Numbers (Bits c) (c .before .leading .given .0 .1 .0) (c .before .leading .given .0 .1 .1 .0)
 numbers c = sym (c .before .before .before .parse .ensures) ∙ c .before .leading .given .1
 
 returns-2 : tie.Need-returns-2
 unfolding checked
-returns-2 c = sym (ap asked (numbers (c .before)) ∙ rw (lt-ltb _ _ (c .if1 .taken)))
+returns-2 c =
+    let above : mostBits < Bits (c .before) = c .if1 .taken in
+    sym (ap asked (numbers (c .before)) ∙ rw (lt-ltb _ _ above))
 
 within-requires : tie.Need-within-requires
 within-requires c κs =
