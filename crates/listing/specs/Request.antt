@@ -53,7 +53,7 @@ requestNumber BadLine = 1
 requestNumber (Refused r) = refusalNumber r
 
 -- the numbers that tell a circuit from others of its kind
-abbrev pub circuitValues : Circuit → List ℕ
+abbrev circuitValues : Circuit → List ℕ
 circuitValues (Record n) = n ∷ []
 circuitValues (Axles lower upper) = lower ∷ upper ∷ []
 

@@ -1,5 +1,4 @@
 -- Each front has its own line.
-use mathlib.Core.Path.{_≡_, sym, ap, _∙_}
 use borrow.Author.Needs.{needs}
 use Rattle.listing.specs.Request.{requestOf}
 use Rattle.listing.proofs.request.request_of.Statement.{statement}
