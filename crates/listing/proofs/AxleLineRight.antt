@@ -23,11 +23,7 @@ never e = let z : _≡_ {A = ℕ} 0 1 = cc in omega arith
 -- four numbers are a first one and three that were read behind it
 parted : (v : ℕ) (r : Parsed) (l u f h : ℕ) → prefixed v r ≡ FourNumbers l u f h → (v ≡ l) × (r ≡ Numbers u f h)
 parted v (Numbers u′ f′ h′) l u f h e =
-    let lower : v ≡ l = cc in
-    let upper : u′ ≡ u = cc in
-    let first : f′ ≡ f = cc in
-    let many : h′ ≡ h = cc in
-    (lower, cc)
+    (cc, cc)
 parted v Malformed l u f h e = absurd (never e)
 
 pub parse-axles-right : (s : List ℕ) (l u f h : ℕ) → (parseAxlesOf s ≡ FourNumbers l u f h) ↔ RightAxles s l u f h

@@ -41,12 +41,12 @@ abbrev pub askedAxles : ParsedAxles → Request
 askedAxles (FourNumbers l u f h) = checkedAxles l u f h
 askedAxles NotFour = BadLine
 
--- by what stands at the front of the line
+-- what a line asks for, by what stands at its front
 unfoldable pub requestOf : Front → List ℕ → Request
 requestOf Length s = asked (parseOf s)
 requestOf Bounds s = askedAxles (parseAxlesOf s)
 
--- the paper's number of a refusal, 0 for none: "1. The program's line is not three decimal numbers ..", or four
+-- the paper's number of a refusal, 0 for none: "1. The program's line is not three decimal numbers ..", with bounds four
 abbrev pub requestNumber : Request → ℕ
 requestNumber (Rows c f h) = 0
 requestNumber BadLine = 1
@@ -57,7 +57,7 @@ abbrev circuitValues : Circuit → List ℕ
 circuitValues (Record n) = n ∷ []
 circuitValues (Axles lower upper) = lower ∷ upper ∷ []
 
--- its values: those of a refusal, which are none (`refused-values` of proofs/Requests), or what is asked for
+-- the values of a request: those of a refusal, which are none (`refused-values` of proofs/Requests), or what is asked for
 abbrev pub requestValues : Request → List ℕ
 requestValues (Rows c f h) = circuitValues c ++ (f .0 ∷ h ∷ [])
 requestValues BadLine = []
