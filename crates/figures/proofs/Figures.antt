@@ -12,7 +12,7 @@ use Rattle.encoding.specs.Packed.{spareBits}
 use Rattle.encoding.specs.Sequence.{tab}
 use Rattle.figures.specs.Figures.{Figure, table}
 use Rattle.listing.specs.Line.{parseOf}
-use Rattle.listing.specs.Request.{checked, requestOf}
+use Rattle.listing.specs.Request.{checked, requestOf, within}
 use Rattle.sm3.specs.Handed.{handedAnswer}
 use Rattle.sm3.specs.Message.{blocks}
 use Rattle.sm3.specs.Sm3.{P0, P1, constant, rotatedConstant}
@@ -21,5 +21,5 @@ use Rattle.text.specs.Decimal.{isDigit}
 use Rattle.text.specs.Field.{continues, fieldFrom, fieldOf}
 
 pub figures : map (λ (f : Figure). f .computed) table ≡ map (λ (f : Figure). f .stated) table
-unfolding blocks wireCount rowCount handedAnswer spareBits number bitOfBytes rowAnswer checkAnswer entry leastFirst fromLeastFirst tab P0 P1 rotatedConstant constant rotateLeft requestOf checked parseOf fieldOf fieldFrom continues isDigit
+unfolding blocks wireCount rowCount handedAnswer spareBits number bitOfBytes rowAnswer checkAnswer entry leastFirst fromLeastFirst tab P0 P1 rotatedConstant constant rotateLeft requestOf checked within parseOf fieldOf fieldFrom continues isDigit
 figures = refl

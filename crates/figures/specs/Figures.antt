@@ -14,6 +14,7 @@ use Rattle.encoding.specs.Bytes.{leastFirst}
 use Rattle.encoding.specs.Packed.{packedLength}
 use Rattle.field.specs.Field.{p}
 use Rattle.listing.specs.Request.{requestNumber, requestOf}
+use Rattle.listing.specs.declared.request.Front.the-variants.{Length}
 use Rattle.refusal.specs.Refusals.{outcomeNumber}
 use Rattle.sm3.specs.Digest.{digestAnswer}
 use Rattle.sm3.specs.Message.{blocks}
@@ -41,14 +42,14 @@ table =
     ∷ (blocks 447 is 1)
     ∷ (blocks 959 is 2)
     ∷ (blocks 8127 is 16)
-    ∷ (requestNumber (requestOf (ascii "8127,0,0\n")) is 0)
+    ∷ (requestNumber (requestOf Length (ascii "8127,0,0\n")) is 0)
     -- "L 1,016 is refusal 2": 8,128 bits, of every operation, the digest, a row, the assignment and the check, and of the program's
     -- line
     ∷ (outcomeNumber (digestAnswer 8128 (leastFirst 1016 0) 32) is 2)
     ∷ (rowNumber (rowAnswer 8128 0 rowBytes) is 2)
     ∷ (outcomeNumber (produceAnswer 8128 (leastFirst 1016 0) (8 * wireCount (Record 8128))) is 2)
     ∷ (outcomeNumber (checkAnswer 8128 (leastFirst 32 0) []) is 2)
-    ∷ (requestNumber (requestOf (ascii "8128,0,0\n")) is 2)
+    ∷ (requestNumber (requestOf Length (ascii "8128,0,0\n")) is 2)
     -- "13, the record's bytes are not the bits over 8 rounded up"; "14, a bit after the last record bit is set": 37 bits have 5
     -- bytes, and the three low bits of the last are spare
     ∷ (packedLength 37 is 5)

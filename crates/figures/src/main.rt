@@ -17,12 +17,12 @@
 ghost use Prim.Native.Nat.{_+_, _≤_};
 ghost use Rattle.circuit.specs.GivenRow.{rowBytes};
 ghost use Rattle.sm3.specs.Message.{mostBits};
+use circuit::given_row::ROW_BYTES;
 use circuit::given_row::RowAnswer;
 use encoding::packed::packed_length;
 use encoding::read::eight_bytes;
 use encoding::read::four_bytes;
 use libc::STDOUT_FILENO;
-use record::row::ROW_BYTES;
 use record::row::row;
 use refusal::numbers::RowNumber;
 use refusal::outcome::number_of;

@@ -10,6 +10,7 @@ use native.Mathlib.Omega.{arith}
 use borrow.Author.Tests.{eq-eqb, le-ltb, lt-ltb, ne-eqb}
 use lib.Dec.{ltb}
 use lib.ListN.{length}
+use Rattle.circuit.specs.declared.circuits.Circuit.{Circuit}
 use Rattle.refusal.specs.declared.numbers.RowNumber.{RowNumber}
 use Rattle.text.proofs.Put.{length-put, put-front, put-none, put-then}
 use Rattle.text.specs.Put.{Put}
@@ -107,9 +108,9 @@ handed p put fits next =
 -- a request for no rows is refused
 pub refusing :
     (l : Listing) (n : ℕ) (q : Request)
-    → ((bits : ℕ) (f : RowNumber) (h : ℕ) → q ≡ Rows bits f h → ⊥)
+    → ((C : Circuit) (f : RowNumber) (h : ℕ) → q ≡ Rows C f h → ⊥)
     → (refused (requestNumber q) ≡ chunkOf l n (Begun q)) × (Done ≡ nextOf l n (Begun q))
-refusing l n (Rows bits f h) never = absurd (never bits f h refl)
+refusing l n (Rows C f h) never = absurd (never C f h refl)
 refusing l n BadLine never = (refl, refl)
 refusing l n (Refused r) never = (refl, refl)
 
@@ -118,29 +119,29 @@ pub room-bounds : (l : Listing) → (106 ≤ room l) × (room l ≤ 10595)
 room-bounds listing.Rows = omega arith
 room-bounds listing.Steps = omega arith
 
-module _ (l : Listing) (bits : ℕ) (k₀ : RowNumber) (m₀ : ℕ) where
+module _ (l : Listing) (C : Circuit) (k₀ : RowNumber) (m₀ : ℕ) where
   abbrev pub Filled : List ℕ → List ℕ → ℕ → ℕ → ℕ → Type 0
-  Filled = Filling (room l) (lines l bits) (k₀ .0) m₀
+  Filled = Filling (room l) (lines l C) (k₀ .0) m₀
 
-  past-all : past bits k₀ m₀ m₀ ≡ Done
+  past-all : past C k₀ m₀ m₀ ≡ Done
   past-all = simp (eq-eqb m₀ m₀ refl)
 
-  past-some : (k left : ℕ) → 0 < left → left ≤ m₀ → k + left ≡ k₀ .0 + m₀ → past bits k₀ m₀ (m₀ - left) ≡ Lines bits (record { 0 = k }) left
+  past-some : (k left : ℕ) → 0 < left → left ≤ m₀ → k + left ≡ k₀ .0 + m₀ → past C k₀ m₀ (m₀ - left) ≡ Lines C (record { 0 = k }) left
   past-some k left more some next =
       let here : k₀ .0 + (m₀ - left) ≡ k = omega arith in
       let rest : m₀ - (m₀ - left) ≡ left = omega arith in
       let fewer : m₀ - left ≡ m₀ → ⊥ = λ e. omega (arith, e) in
-      simp (ne-eqb (m₀ - left) m₀ fewer) (ap₂ (λ (i m : ℕ). Lines bits (record { 0 = i }) m) here rest)
+      simp (ne-eqb (m₀ - left) m₀ fewer) (ap₂ (λ (i m : ℕ). Lines C (record { 0 = i }) m) here rest)
 
   handed-rows :
       {before after : List ℕ} {k left at : ℕ} {next : Progress}
       → Filled before after k left at
-      → fitting (room l) (lines l bits) k left (length before - at) ≡ 0
-      → next ≡ past bits k₀ m₀ (m₀ - left)
-      → Handed l (Lines bits k₀ m₀) before after (record { bytes = at; next = next })
+      → fitting (room l) (lines l C) k left (length before - at) ≡ 0
+      → next ≡ past C k₀ m₀ (m₀ - left)
+      → Handed l (Lines C k₀ m₀) before after (record { bytes = at; next = next })
   handed-rows {before} {after} {k} {left} {at} f none behind =
-      let all : fitting (room l) (lines l bits) (k₀ .0) m₀ (length before) ≡ m₀ - left = omega (arith, f .count, none) in
-      handed (Lines bits k₀ m₀) (rw all (f .put)) (f .fits) (rw all behind)
+      let all : fitting (room l) (lines l C) (k₀ .0) m₀ (length before) ≡ m₀ - left = omega (arith, f .count, none) in
+      handed (Lines C k₀ m₀) (rw all (f .put)) (f .fits) (rw all behind)
 
   -- the buffer is full
   pub handed-full :
@@ -148,9 +149,9 @@ module _ (l : Listing) (bits : ℕ) (k₀ : RowNumber) (m₀ : ℕ) where
       → Filled before after k left at
       → 0 < left
       → length before - at < room l
-      → Handed l (Lines bits k₀ m₀) before after (record { bytes = at; next = Lines bits (record { 0 = k }) left })
+      → Handed l (Lines C k₀ m₀) before after (record { bytes = at; next = Lines C (record { 0 = k }) left })
   handed-full {before} {after} {k} {left} {at} f more full =
-      handed-rows f (fitting-full (room l) (lines l bits) k left (length before - at) full)
+      handed-rows f (fitting-full (room l) (lines l C) k left (length before - at) full)
       (sym (past-some k left more (f .some) (f .next)))
 
   -- no row is left
@@ -158,9 +159,9 @@ module _ (l : Listing) (bits : ℕ) (k₀ : RowNumber) (m₀ : ℕ) where
       {before after : List ℕ} {k left at : ℕ}
       → Filled before after k left at
       → left ≡ 0
-      → Handed l (Lines bits k₀ m₀) before after (record { bytes = at; next = Done })
+      → Handed l (Lines C k₀ m₀) before after (record { bytes = at; next = Done })
   handed-all {before} {after} {k} {left} {at} f none =
       let whole : m₀ - left ≡ m₀ = omega arith in
       handed-rows f
-      (ap (λ (m : ℕ). fitting (room l) (lines l bits) k m (length before - at)) none ∙ fitting-none (room l) (lines l bits) k _)
-      (sym (ap (past bits k₀ m₀) whole ∙ past-all))
+      (ap (λ (m : ℕ). fitting (room l) (lines l C) k m (length before - at)) none ∙ fitting-none (room l) (lines l C) k _)
+      (sym (ap (past C k₀ m₀) whole ∙ past-all))

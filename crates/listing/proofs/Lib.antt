@@ -1,4 +1,5 @@
 pub mod AllPrinted
+pub mod AxleLineRight
 pub mod Chunks
 pub mod HeldLines
 pub mod LineRight

@@ -3,7 +3,7 @@
 use mathlib.Core.List.{List, [], _∷_, _++_, append-assoc, append-nil}
 use mathlib.Core.Logic.{_↔_}
 use mathlib.Core.Path.{_≡_, refl, sym, ap, _∙_}
-use Prim.Native.Nat.{ℕ, _+_, _<_}
+use Prim.Native.Nat.{ℕ, _+_, _<_, _≤_}
 use native.Mathlib.Omega.{arith}
 use lib.ListN.{length, length-append}
 use Rattle.text.proofs.AfterField.{goes-on, length-field, past}
@@ -73,16 +73,19 @@ parse-wrong s = (λ bad n f h right. never (sym bad ∙ parse-right s n f h .1 r
     by Malformed read none = read
 
 -- A right line has at most 30 bytes, so a buffer that holds one more is long enough to tell.
-pub long-wrong : (s : List ℕ) → 30 < length s → parseOf s ≡ Malformed
+pub length-line : (n f h : ℕ) → n < 1000000000 → f < 1000000000 → h < 1000000000 → length (line n f h) ≤ 30
 unfolding line
-long-wrong s long =
-    parse-wrong s .1 λ n f h right.
+length-line n f h n-below f-below h-below =
     omega (
       arith,
-      ap length (right .3),
       length-append (field n comma ++ field f comma) (field h lineFeed),
       length-append (field n comma) (field f comma),
-      length-field n comma (right .0),
-      length-field f comma (right .1),
-      length-field h lineFeed (right .2),
+      length-field n comma n-below,
+      length-field f comma f-below,
+      length-field h lineFeed h-below,
     )
+
+pub long-wrong : (s : List ℕ) → 30 < length s → parseOf s ≡ Malformed
+long-wrong s long =
+    parse-wrong s .1 λ n f h right.
+    omega (arith, ap length (right .3), length-line n f h (right .0) (right .1) (right .2))

@@ -6,7 +6,7 @@ use lib.ListN.{drop, length}
 use Rattle.block.specs.declared.step.Step.{Step}
 use Rattle.block.specs.declared.step.Step.the-variants.{Start, Message, Q, P1, W, WPrime, U, Ss2, Ff, Gg, Tt1, Tt2, P0, Result, Digest, Appended}
 use Rattle.forms.specs.declared.form.Form.{Form}
-use Rattle.forms.specs.declared.form.Form.the-variants.{Fixed, Bit, XorOfTwo, XorOfThree, Majority, Choice, Sum, Equal}
+use Rattle.forms.specs.declared.form.Form.the-variants.{Fixed, Bit, XorOfTwo, XorOfThree, Majority, Choice, Sum, Equal, Difference}
 use Rattle.text.specs.Literal.{through}
 use Rattle.text.specs.Text.{comma, lineFeed}
 use Rattle.listing.specs.Names.{allForms, allSteps, formPlace, stepPlace}
@@ -41,3 +41,4 @@ form-name (Majority x y z r) = (refl, lit≤ tt)
 form-name (Choice x y z r) = (refl, lit≤ tt)
 form-name (Sum s k r) = (refl, lit≤ tt)
 form-name (Equal x y) = (refl, lit≤ tt)
+form-name (Difference d above bound n r) = (refl, lit≤ tt)

@@ -1,3 +1,4 @@
+pub mod AxleLine
 pub mod Held
 pub mod Line
 pub mod Listing

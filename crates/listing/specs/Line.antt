@@ -9,7 +9,8 @@ use Rattle.text.specs.Text.{comma, lineFeed}
 use Rattle.listing.specs.declared.line.Parsed.{Parsed}
 use Rattle.listing.specs.declared.line.Parsed.the-variants.{Numbers, Malformed}
 
--- the line that asks for h rows from row f on, of a record of n bits
+-- the line that asks for h rows from row f on, of a record of n bits; with an upper bound for n it ends the line of the axle circuit
+-- (specs/AxleLine)
 unfoldable pub line : ℕ → ℕ → ℕ → List ℕ
 line n f h = field n comma ++ field f comma ++ field h lineFeed
 

@@ -5,7 +5,7 @@ use Prim.Native.Nat.{ℕ}
 use Rattle.block.specs.declared.step.Step.{Step}
 use Rattle.block.specs.declared.step.Step.the-variants.{Start, Message, Q, P1, W, WPrime, U, Ss2, Ff, Gg, Tt1, Tt2, P0, Result, Digest, Appended}
 use Rattle.forms.specs.declared.form.Form.{Form}
-use Rattle.forms.specs.declared.form.Form.the-variants.{Fixed, Bit, XorOfTwo, XorOfThree, Majority, Choice, Sum, Equal}
+use Rattle.forms.specs.declared.form.Form.the-variants.{Fixed, Bit, XorOfTwo, XorOfThree, Majority, Choice, Sum, Equal, Difference}
 use Rattle.text.specs.Text.{ascii}
 
 abbrev pub allSteps : List ℕ
@@ -41,3 +41,4 @@ formPlace (Majority x y z r) = 34
 formPlace (Choice x y z r) = 43
 formPlace (Sum s k r) = 50
 formPlace (Equal x y) = 54
+formPlace (Difference d above bound n r) = 50

@@ -7,8 +7,9 @@ use Prim.Native.Nat.{ℕ, zero, suc, _+_, _-_, _≤_}
 use lib.Dec.{eqb, ltb}
 use lib.ListN.{length, take}
 use Rattle.circuit.specs.Places.{rowCount}
+use Rattle.circuit.specs.Ranges.{Allowed}
+use Rattle.circuit.specs.declared.circuits.Circuit.{Circuit}
 use Rattle.refusal.specs.declared.numbers.RowNumber.{RowNumber}
-use Rattle.sm3.specs.Message.{mostBits}
 use Rattle.text.specs.Refused.{refused}
 use Rattle.listing.specs.Listing.{header, lines, linesFrom, prints}
 use Rattle.listing.specs.Request.{requestNumber, requestOf}
@@ -19,6 +20,7 @@ use Rattle.listing.specs.declared.progress.Listing.{Listing}
 use Rattle.listing.specs.declared.progress.Listing.the-variants as listing
 use Rattle.listing.specs.declared.progress.Progress.{Progress}
 use Rattle.listing.specs.declared.progress.Progress.the-variants.{Begun, Done, Lines}
+use Rattle.listing.specs.declared.request.Front.{Front}
 use Rattle.listing.specs.declared.request.Request.the-variants.{BadLine, Refused, Rows}
 
 -- how many bytes the lines of a row take at most
@@ -31,32 +33,32 @@ unfoldable pub fitting : ℕ → (ℕ → List ℕ) → ℕ → ℕ → ℕ → 
 fitting least of k zero n = 0
 fitting least of k (suc m) n = let more = fitting least of (suc k) m (n - length (of k)) in cond (ltb n least) 0 (suc more)
 
-abbrev pub rowsFitting : Listing → ℕ → ℕ → RowNumber → ℕ → ℕ
-rowsFitting l n bits k m = fitting (room l) (lines l bits) (k .0) m n
+abbrev pub rowsFitting : Listing → ℕ → Circuit → RowNumber → ℕ → ℕ
+rowsFitting l n c k m = fitting (room l) (lines l c) (k .0) m n
 
 -- behind j of the m rows from k on
-abbrev pub past : ℕ → RowNumber → ℕ → ℕ → Progress
-past bits k m j = cond (eqb j m) Done (Lines bits (record { 0 = k .0 + j }) (m - j))
+abbrev pub past : Circuit → RowNumber → ℕ → ℕ → Progress
+past c k m j = cond (eqb j m) Done (Lines c (record { 0 = k .0 + j }) (m - j))
 
 -- the next chunk, and the progress behind it
 abbrev pub chunkOf : Listing → ℕ → Progress → List ℕ
-chunkOf l n (Begun (Rows bits f h)) = header l
+chunkOf l n (Begun (Rows c f h)) = header l
 chunkOf l n (Begun BadLine) = refused (requestNumber BadLine)
 chunkOf l n (Begun (Refused r)) = refused (requestNumber (Refused r))
-chunkOf l n (Lines bits k m) = linesFrom (lines l bits) (k .0) (rowsFitting l n bits k m)
+chunkOf l n (Lines c k m) = linesFrom (lines l c) (k .0) (rowsFitting l n c k m)
 chunkOf l n Done = []
 
 abbrev pub nextOf : Listing → ℕ → Progress → Progress
-nextOf l n (Begun (Rows bits f h)) = Lines bits f h
+nextOf l n (Begun (Rows c f h)) = Lines c f h
 nextOf l n (Begun BadLine) = Done
 nextOf l n (Begun (Refused r)) = Done
-nextOf l n (Lines bits k m) = past bits k m (rowsFitting l n bits k m)
+nextOf l n (Lines c k m) = past c k m (rowsFitting l n c k m)
 nextOf l n Done = Done
 
 -- whether there is a next chunk
 abbrev pub unfinished : Progress → Bool
 unfinished (Begun q) = true
-unfinished (Lines bits k m) = true
+unfinished (Lines c k m) = true
 unfinished Done = false
 
 -- what `next_chunk` leaves: the chunk at the front of the buffer, and the progress behind it
@@ -66,14 +68,14 @@ pub record Handed (l : Listing) (p : Progress) (before after : List ℕ) (r : Ch
   pub next : r .next ≡ nextOf l (length before) p
 
 -- the rows that are still to be printed exist
-abbrev pub RowsExist : ℕ → RowNumber → ℕ → Type 0
-RowsExist bits k m = (bits ≤ mostBits) × (k .0 + m ≤ rowCount bits)
+abbrev pub RowsExist : Circuit → RowNumber → ℕ → Type 0
+RowsExist c k m = Allowed c × (k .0 + m ≤ rowCount c)
 
 abbrev pub Possible : Progress → Type 0
-Possible (Begun (Rows bits f h)) = RowsExist bits f h
+Possible (Begun (Rows c f h)) = RowsExist c f h
 Possible (Begun BadLine) = Unit {0}
 Possible (Begun (Refused r)) = Unit {0}
-Possible (Lines bits k m) = RowsExist bits k m
+Possible (Lines c k m) = RowsExist c k m
 Possible Done = Unit {0}
 
 -- a run of the loop "while `unfinished`, print the next chunk", from a progress to its end, and the bytes that it prints
@@ -84,4 +86,7 @@ pub data Run (l : Listing) (n : ℕ) : Progress → List ℕ → Type 0 where
 -- Of standard input s at most m bytes are read; begun with them, the loop ends and prints what is to be printed for s.
 abbrev pub PrintsAll : Type 0
 PrintsAll =
-    (l : Listing) (n m : ℕ) (s : List ℕ) → room l ≤ n → 31 ≤ m → Run l n (Begun (requestOf (take m s))) (prints l s)
+    (l : Listing) (t : Front) (n m : ℕ) (s : List ℕ)
+    → room l ≤ n
+    → 41 ≤ m
+    → Run l n (Begun (requestOf t (take m s))) (prints l t s)

@@ -2,6 +2,7 @@
 use mathlib.Core.List.{List, [], _∷_, _++_}
 use Prim.Native.Nat.{ℕ, _*_}
 use Rattle.circuit.specs.Circuit.{rowAt}
+use Rattle.circuit.specs.declared.circuits.Circuit.{Circuit}
 use Rattle.forms.specs.Shape.{mostTerms}
 use Rattle.forms.specs.declared.form.Term.{Term}
 use Rattle.text.specs.Decimal.{field}
@@ -15,9 +16,9 @@ unfoldable pub partLines : ℕ → ℕ → List Term → List ℕ
 partLines row part [] = []
 partLines row part (t ∷ ts) = termLine row part (t .wire .0) (t .coefficient) ++ partLines row part ts
 
--- the lines of row k of a record of n bits: the terms of A, of B and of C
-unfoldable pub rowLines : ℕ → ℕ → List ℕ
-rowLines n k = partLines k 65 (rowAt n k .A) ++ partLines k 66 (rowAt n k .B) ++ partLines k 67 (rowAt n k .C)
+-- the lines of row k of a circuit: the terms of A, of B and of C
+unfoldable pub rowLines : Circuit → ℕ → List ℕ
+rowLines c k = partLines k 65 (rowAt c k .A) ++ partLines k 66 (rowAt c k .B) ++ partLines k 67 (rowAt c k .C)
 
 -- how many bytes the line of a term takes at most, and the lines of a row
 abbrev pub lineRoom : ℕ

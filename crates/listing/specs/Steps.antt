@@ -8,10 +8,11 @@ use Rattle.block.specs.declared.place.Place.{Place}
 use Rattle.block.specs.declared.step.Step.{Step}
 use Rattle.block.specs.declared.step.Step.the-variants.{Start, Message, Q, P1, W, WPrime, U, Ss2, Ff, Gg, Tt1, Tt2, P0, Result, Digest, Appended}
 use Rattle.circuit.specs.Circuit.{formAt}
+use Rattle.circuit.specs.Circuits.{blockCount}
 use Rattle.circuit.specs.Places.{placeAt}
+use Rattle.circuit.specs.declared.circuits.Circuit.{Circuit}
 use Rattle.forms.specs.declared.form.Form.{Form}
-use Rattle.forms.specs.declared.form.Form.the-variants.{Fixed, Bit, XorOfTwo, XorOfThree, Majority, Choice, Sum, Equal}
-use Rattle.sm3.specs.Message.{blocks}
+use Rattle.forms.specs.declared.form.Form.the-variants.{Fixed, Bit, XorOfTwo, XorOfThree, Majority, Choice, Sum, Equal, Difference}
 use Rattle.text.specs.Decimal.{field}
 use Rattle.text.specs.Text.{ascii, comma}
 
@@ -62,6 +63,8 @@ formText (Majority x y z r) = ascii "majority\n"
 formText (Choice x y z r) = ascii "choice\n"
 formText (Sum s k r) = ascii "sum\n"
 formText (Equal x y) = ascii "equal\n"
+-- document 02, request 5: "a sum row of value minus bits"
+formText (Difference d above bound n r) = ascii "sum\n"
 
 -- a number that may be left out, and the byte after it
 unfoldable pub optional : Bool → ℕ → ℕ → List ℕ
@@ -79,9 +82,9 @@ whereText k p = field k comma ++ optional (inBlock (p .step)) (p .block) comma +
 unfoldable pub whatText : Place → Form → List ℕ
 whatText p f = field (p .index) comma ++ optional (ltb (position p) 34) (position p) comma ++ formText f
 
--- the line of row k of a record of n bits
-unfoldable pub stepLine : ℕ → ℕ → List ℕ
-stepLine n k = whereText k (placeAt (blocks n) k) ++ whatText (placeAt (blocks n) k) (formAt n k)
+-- the line of row k of a circuit
+unfoldable pub stepLine : Circuit → ℕ → List ℕ
+stepLine c k = whereText k (placeAt (blockCount c) k) ++ whatText (placeAt (blockCount c) k) (formAt c k)
 
 -- how many bytes it takes at most
 abbrev pub stepRoom : ℕ

@@ -5,6 +5,7 @@ use mathlib.Core.Path.{_≡_}
 use Prim.Native.Nat.{ℕ, _+_, _*_}
 use lib.Dec.{ltb}
 use Rattle.circuit.specs.WholeBytes.{rowsOfBytes}
+use Rattle.circuit.specs.declared.circuits.Circuit.the-variants.{Record}
 use Rattle.listing.specs.Request.{checked}
 use Rattle.listing.specs.declared.request.Request.the-variants.{Refused, Rows}
 use Rattle.refusal.specs.declared.outcome.Refusal.the-variants.{LengthAboveLimit, RowOutOfRange}
@@ -17,4 +18,4 @@ WholeBytes =
     → checked (8 * L) f h
     ≡ cond (ltb mostBytes L) (Refused LengthAboveLimit)
     (cond (ltb (rowsOfBytes L) (f + h)) (Refused RowOutOfRange)
-    (Rows (8 * L) (record { 0 = f }) h))
+    (Rows (Record (8 * L)) (record { 0 = f }) h))

@@ -1,4 +1,5 @@
-// What the programs `rows` and `steps` read and print.
+// What the programs `rows`, `steps`, `axle_rows` and `axle_steps` read and print.
+pub mod axle_line;
 pub mod line;
 pub mod program;
 pub mod progress;

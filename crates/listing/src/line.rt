@@ -1,4 +1,5 @@
-// The line that asks for rows, `length,first,how many` and a line feed, the length in bits.
+// The end of a line that asks for rows: a number, the first row and how many, parted by commas and ended by a line feed. Of a
+// record that is the whole line, and the number its length in bits.
 ghost use mathlib.Core.Path.{_≡_};
 ghost use Rattle.listing.specs.Line.{parseOf};
 use text::field::Field;
@@ -7,7 +8,7 @@ use text::field::read_field;
 // What a line says.
 pub enum Parsed {
     // Three numbers below 1,000,000,000.
-    Numbers { bits: u64, first: u64, many: u64 },
+    Numbers { leading: u64, first: u64, many: u64 },
     // It is no such line.
     Malformed,
 }
@@ -17,7 +18,7 @@ pub fn parse(s: &[u8]) -> Parsed
     ensures { λ r. ⌜ r ≡ parseOf (now (s .entry)) ⌝ }
 {
     let Field::Number {
-        value: bits,
+        value: leading,
         bytes: a,
     } = read_field(s, 0, b',')
     else {
@@ -40,5 +41,9 @@ pub fn parse(s: &[u8]) -> Parsed
     if a + b + c < s.len() {
         return Parsed::Malformed;
     }
-    Parsed::Numbers { bits, first, many }
+    Parsed::Numbers {
+        leading,
+        first,
+        many,
+    }
 }

@@ -3,12 +3,13 @@ ghost use mathlib.Core.Path.{_≡_};
 ghost use Prim.Native.Nat.{_+_, _<_, _≤_};
 ghost use lib.ListN.{length};
 ghost use Rattle.circuit.specs.Places.{rowCount};
+ghost use Rattle.circuit.specs.Ranges.{Allowed};
 ghost use Rattle.forms.specs.Terms.{termRoom};
 ghost use Rattle.listing.specs.Listing.{header, lines};
 ghost use Rattle.listing.specs.Progress.{Handed, Possible, RowsExist, room, unfinished};
 ghost use Rattle.listing.specs.Request.{requestOf};
-ghost use Rattle.sm3.specs.Message.{mostBits};
 ghost use Rattle.text.specs.Put.{Put};
+use crate::request::Front;
 use crate::request::Request;
 use crate::request::refusal_number;
 use crate::request::request_of;
@@ -16,11 +17,12 @@ use crate::step::STEP_ROOM;
 use crate::step::put_step_line;
 use crate::term::ROW_ROOM;
 use crate::term::put_row;
+use circuit::circuits::Circuit;
 use refusal::numbers::RowNumber;
 use text::literal::put_through;
 use text::refused::put_refusal;
 
-// The two programs' listings.
+// The programs' two listings.
 pub enum Listing {
     // The terms of each row.
     Rows,
@@ -32,9 +34,9 @@ pub enum Listing {
 pub enum Progress {
     // All that a request asks for.
     Begun(Request),
-    // The lines of so many rows from `next` on, of a record of so many bits.
+    // The lines of so many rows of a circuit from `next` on.
     Lines {
-        bits: u64,
+        circuit: Circuit,
         next: RowNumber,
         many: u64,
     },
@@ -49,10 +51,10 @@ pub struct Chunk {
 }
 
 // What is to be printed for the bytes of standard input.
-pub fn begin(line: &[u8]) -> Progress
-    ensures { λ r. ⌜ (r ≡ Progress.Begun (requestOf (now (line .entry)))) × Possible r ⌝ }
+pub fn begin(front: Front, line: &[u8]) -> Progress
+    ensures { λ r. ⌜ (r ≡ Progress.Begun (requestOf front (now (line .entry)))) × Possible r ⌝ }
 {
-    Progress::Begun(request_of(line))
+    Progress::Begun(request_of(front, line))
 }
 
 // Whether there is something to print.
@@ -62,7 +64,7 @@ pub fn more(progress: Progress) -> bool
     match progress {
         Progress::Begun(_) => true,
         Progress::Lines {
-            bits: _,
+            circuit: _,
             next: _,
             many: _,
         } => true,
@@ -96,16 +98,16 @@ fn put_lines(
     listing: Listing,
     out: &mut [u8],
     at: usize,
-    bits: u64,
+    circuit: Circuit,
     row: RowNumber,
     terms: &mut [u64],
 ) -> usize
-    requires { ⌜ (at + room listing ≤ length (now out)) × (bits ≤ mostBits) × (row .0 < rowCount bits) × (termRoom ≤ length (now terms)) ⌝ }
-    ensures { λ r. ⌜ Put (now (out .entry)) at (lines listing bits (row .0)) (now (out .exit)) r × (r ≤ at + room listing) ⌝ }
+    requires { ⌜ (at + room listing ≤ length (now out)) × Allowed circuit × (row .0 < rowCount circuit) × (termRoom ≤ length (now terms)) ⌝ }
+    ensures { λ r. ⌜ Put (now (out .entry)) at (lines listing circuit (row .0)) (now (out .exit)) r × (r ≤ at + room listing) ⌝ }
 {
     match listing {
-        Listing::Rows => put_row(out, at, bits, row, terms),
-        Listing::Steps => put_step_line(out, at, bits, row),
+        Listing::Rows => put_row(out, at, circuit, row, terms),
+        Listing::Steps => put_step_line(out, at, circuit, row),
     }
 }
 
@@ -114,7 +116,12 @@ fn first_chunk(listing: Listing, request: Request, out: &mut [u8]) -> Chunk
     requires { ⌜ room listing ≤ length (now out) ⌝ }
     ensures { λ r. ⌜ Handed listing (Progress.Begun request) (now (out .entry)) (now (out .exit)) r ⌝ }
 {
-    let Request::Rows { bits, first, many } = request else {
+    let Request::Rows {
+        circuit,
+        first,
+        many,
+    } = request
+    else {
         return Chunk {
             bytes: put_refusal(out, refusal_number(request)),
             next: Progress::Done,
@@ -123,7 +130,7 @@ fn first_chunk(listing: Listing, request: Request, out: &mut [u8]) -> Chunk
     Chunk {
         bytes: put_header(listing, out),
         next: Progress::Lines {
-            bits,
+            circuit,
             next: first,
             many,
         },
@@ -133,14 +140,14 @@ fn first_chunk(listing: Listing, request: Request, out: &mut [u8]) -> Chunk
 // The lines of the rows from `next` on, all or as many as the buffer holds.
 fn fill(
     listing: Listing,
-    bits: u64,
+    circuit: Circuit,
     next: RowNumber,
     many: u64,
     out: &mut [u8],
     terms: &mut [u64],
 ) -> Chunk
-    requires { ⌜ (room listing ≤ length (now out)) × RowsExist bits next many × (termRoom ≤ length (now terms)) ⌝ }
-    ensures { λ r. ⌜ Handed listing (Progress.Lines bits next many) (now (out .entry)) (now (out .exit)) r ⌝ }
+    requires { ⌜ (room listing ≤ length (now out)) × RowsExist circuit next many × (termRoom ≤ length (now terms)) ⌝ }
+    ensures { λ r. ⌜ Handed listing (Progress.Lines circuit next many) (now (out .entry)) (now (out .exit)) r ⌝ }
 {
     let least = room_of(listing);
     let mut k = next.0;
@@ -151,13 +158,13 @@ fn fill(
             return Chunk {
                 bytes: at,
                 next: Progress::Lines {
-                    bits,
+                    circuit,
                     next: RowNumber(k),
                     many: left,
                 },
             };
         }
-        at = put_lines(listing, out, at, bits, RowNumber(k), terms);
+        at = put_lines(listing, out, at, circuit, RowNumber(k), terms);
         k += 1;
         left -= 1;
     }
@@ -174,7 +181,11 @@ pub fn next_chunk(listing: Listing, progress: Progress, out: &mut [u8], terms: &
 {
     match progress {
         Progress::Begun(request) => first_chunk(listing, request, out),
-        Progress::Lines { bits, next, many } => fill(listing, bits, next, many, out, terms),
+        Progress::Lines {
+            circuit,
+            next,
+            many: left,
+        } => fill(listing, circuit, next, left, out, terms),
         Progress::Done => Chunk {
             bytes: 0,
             next: Progress::Done,

@@ -1,45 +1,104 @@
 // What a line asks for, or why it is refused.
 ghost use mathlib.Core.Path.{_≡_};
-ghost use Rattle.listing.specs.Request.{requestNumber, requestOf};
+ghost use Prim.Native.Nat.{_<_};
+ghost use Rattle.circuit.specs.Ranges.{Allowed};
+ghost use Rattle.listing.specs.AxleLine.{parseAxlesOf};
+ghost use Rattle.listing.specs.Line.{parseOf};
+ghost use Rattle.listing.specs.Request as specs;
+ghost use Rattle.listing.specs.Request.{asked, askedAxles, requestNumber, requestOf};
+use crate::axle_line::ParsedAxles;
+use crate::axle_line::parse_axles;
 use crate::line::Parsed;
 use crate::line::parse;
+use circuit::axles::bounds_in_range;
+use circuit::circuits::Circuit;
 use circuit::place::row_count;
 use refusal::numbers::RowNumber;
 use refusal::outcome::Refusal;
 use refusal::outcome::number_of;
 use sm3::message::MOST_BITS;
 
+// What stands at the front of a line, before the first row and how many.
+pub enum Front {
+    // The length of a record in bits.
+    Length,
+    // The lower and the upper bound on axles.
+    Bounds,
+}
+
 // What a line asks for.
 pub enum Request {
-    // So many rows from `first` on, of a record of so many bits.
+    // So many rows of a circuit from `first` on.
     Rows {
-        bits: u64,
+        circuit: Circuit,
         first: RowNumber,
         many: u64,
     },
-    // Refusal 1: the line is not three numbers.
+    // Refusal 1: the line is not of its form.
     BadLine,
-    // Refusal 2 or 3.
+    // Refusal 2, 18 or 3.
     Refused(Refusal),
 }
 
-// What a line asks for, by the refusals in their order.
-pub fn request_of(line: &[u8]) -> Request
-    ensures { λ r. ⌜ r ≡ requestOf (now (line .entry)) ⌝ }
+// So many rows of a circuit from `first` on, if there are so many.
+fn within(circuit: Circuit, first: u64, many: u64) -> Request
+    requires { ⌜ Allowed circuit × (first < 1000000000) × (many < 1000000000) ⌝ }
+    ensures { λ r. ⌜ r ≡ specs.within circuit first many ⌝ }
 {
-    let Parsed::Numbers { bits, first, many } = parse(line) else {
-        return Request::BadLine;
-    };
-    if MOST_BITS < bits {
-        return Request::Refused(Refusal::LengthAboveLimit);
-    }
-    if row_count(bits) < first + many {
+    if row_count(circuit) < first + many {
         return Request::Refused(Refusal::RowOutOfRange);
     }
     Request::Rows {
-        bits,
+        circuit,
         first: RowNumber(first),
         many,
+    }
+}
+
+// What a line with a length asks for, by the refusals in their order.
+fn record_request(line: &[u8]) -> Request
+    ensures { λ r. ⌜ r ≡ asked (parseOf (now (line .entry))) ⌝ }
+{
+    let Parsed::Numbers {
+        leading,
+        first,
+        many,
+    } = parse(line)
+    else {
+        return Request::BadLine;
+    };
+    if MOST_BITS < leading {
+        return Request::Refused(Refusal::LengthAboveLimit);
+    }
+    within(Circuit::Record { bits: leading }, first, many)
+}
+
+// What a line with two bounds asks for, by the refusals in their order.
+fn axle_request(line: &[u8]) -> Request
+    ensures { λ r. ⌜ r ≡ askedAxles (parseAxlesOf (now (line .entry))) ⌝ }
+{
+    let ParsedAxles::FourNumbers {
+        lower,
+        upper,
+        first,
+        many,
+    } = parse_axles(line)
+    else {
+        return Request::BadLine;
+    };
+    if !bounds_in_range(lower, upper) {
+        return Request::Refused(Refusal::BoundsOutOfRange);
+    }
+    within(Circuit::Axles { lower, upper }, first, many)
+}
+
+// What a line asks for.
+pub fn request_of(front: Front, line: &[u8]) -> Request
+    ensures { λ r. ⌜ r ≡ requestOf front (now (line .entry)) ⌝ }
+{
+    match front {
+        Front::Length => record_request(line),
+        Front::Bounds => axle_request(line),
     }
 }
 
@@ -49,7 +108,7 @@ pub fn refusal_number(request: Request) -> u64
 {
     match request {
         Request::Rows {
-            bits: _,
+            circuit: _,
             first: _,
             many: _,
         } => 0,

@@ -3,18 +3,19 @@ ghost use mathlib.Core.Path.{_≡_};
 ghost use Prim.Native.Nat.{_+_, _<_, _≤_};
 ghost use lib.ListN.{length};
 ghost use Rattle.circuit.specs.Places.{rowCount};
+ghost use Rattle.circuit.specs.Ranges.{Allowed};
 ghost use Rattle.listing.specs.Names.{formPlace, stepPlace};
 ghost use Rattle.listing.specs.Steps.{formText, inBlock, optional, stepLine, stepRoom, stepText, whatText, whereText};
-ghost use Rattle.sm3.specs.Message.{mostBits};
 ghost use Rattle.text.specs.Put.{Put};
 use block::place::Place;
 use block::step::Step;
 use block::step::lines_of;
+use circuit::circuits::Circuit;
+use circuit::circuits::block_count;
 use circuit::place::place_of;
 use circuit::step_form::form_of;
 use forms::form::Form;
 use refusal::numbers::RowNumber;
-use sm3::message::block_count;
 use text::decimal::put_field;
 use text::literal::put_through;
 
@@ -69,7 +70,7 @@ fn step_place(step: Step) -> usize
     }
 }
 
-// Where the name of a form begins among the names of all.
+// Where the name of a form begins among the names of all. A difference is called a sum.
 fn form_place(form: Form) -> usize
     ensures { λ r. ⌜ r ≡ formPlace form ⌝ }
 {
@@ -101,6 +102,13 @@ fn form_place(form: Form) -> usize
             r: _,
         } => 50,
         Form::Equal { x: _, y: _ } => 54,
+        Form::Difference {
+            digits: _,
+            above: _,
+            bound: _,
+            width: _,
+            r: _,
+        } => 50,
     }
 }
 
@@ -157,13 +165,13 @@ fn put_what(out: &mut [u8], at: usize, p: Place, form: Form) -> usize
     put_form(out, b, form)
 }
 
-// The line of a row of a record of so many bits.
-pub fn put_step_line(out: &mut [u8], at: usize, bits: u64, row: RowNumber) -> usize
-    requires { ⌜ (at + stepRoom ≤ length (now out)) × (bits ≤ mostBits) × (row .0 < rowCount bits) ⌝ }
-    ensures { λ r. ⌜ Put (now (out .entry)) at (stepLine bits (row .0)) (now (out .exit)) r × (r ≤ at + stepRoom) ⌝ }
+// The line of a row of a circuit.
+pub fn put_step_line(out: &mut [u8], at: usize, circuit: Circuit, row: RowNumber) -> usize
+    requires { ⌜ (at + stepRoom ≤ length (now out)) × Allowed circuit × (row .0 < rowCount circuit) ⌝ }
+    ensures { λ r. ⌜ Put (now (out .entry)) at (stepLine circuit (row .0)) (now (out .exit)) r × (r ≤ at + stepRoom) ⌝ }
 {
-    let p = place_of(block_count(bits), row);
-    let form = form_of(bits, p);
+    let p = place_of(block_count(circuit), row);
+    let form = form_of(circuit, p);
     let middle = put_where(out, at, row, p);
     put_what(out, middle, p, form)
 }

@@ -2,11 +2,12 @@
 ghost use Prim.Native.Nat.{_+_, _*_, _<_, _≤_};
 ghost use lib.ListN.{length};
 ghost use Rattle.circuit.specs.Places.{rowCount};
+ghost use Rattle.circuit.specs.Ranges.{Allowed};
 ghost use Rattle.forms.specs.Terms.{termRoom};
 ghost use Rattle.listing.specs.Held.{heldLines};
 ghost use Rattle.listing.specs.Rows.{lineRoom, rowLines, rowRoom, termLine};
-ghost use Rattle.sm3.specs.Message.{mostBits};
 ghost use Rattle.text.specs.Put.{Put};
+use circuit::circuits::Circuit;
 use circuit::row::row_terms;
 use refusal::numbers::RowNumber;
 use refusal::numbers::WireNumber;
@@ -56,12 +57,18 @@ fn put_part(
     end
 }
 
-// The lines of a row of a record of so many bits. `terms` is room for its terms.
-pub fn put_row(out: &mut [u8], at: usize, bits: u64, row: RowNumber, terms: &mut [u64]) -> usize
-    requires { ⌜ (at + rowRoom ≤ length (now out)) × (bits ≤ mostBits) × (row .0 < rowCount bits) × (termRoom ≤ length (now terms)) ⌝ }
-    ensures { λ r. ⌜ Put (now (out .entry)) at (rowLines bits (row .0)) (now (out .exit)) r × (r ≤ at + rowRoom) ⌝ }
+// The lines of a row of a circuit. `terms` is room for its terms.
+pub fn put_row(
+    out: &mut [u8],
+    at: usize,
+    circuit: Circuit,
+    row: RowNumber,
+    terms: &mut [u64],
+) -> usize
+    requires { ⌜ (at + rowRoom ≤ length (now out)) × Allowed circuit × (row .0 < rowCount circuit) × (termRoom ≤ length (now terms)) ⌝ }
+    ensures { λ r. ⌜ Put (now (out .entry)) at (rowLines circuit (row .0)) (now (out .exit)) r × (r ≤ at + rowRoom) ⌝ }
 {
-    let counts = row_terms(bits, row, terms);
+    let counts = row_terms(circuit, row, terms);
     let a = put_part(out, at, row, b'A', terms, 0, counts.a);
     let b = put_part(out, a, row, b'B', terms, counts.a, counts.b);
     put_part(out, b, row, b'C', terms, counts.a + counts.b, counts.c)

@@ -17,9 +17,9 @@ use Rattle.listing.proofs.line.parse.Tie as tie
 
 -- the answer, by how far the line can be read
 module _ (s : List ℕ) where
-  no-bits : fieldOf comma s ≡ Wrong → parseOf s ≡ Malformed
+  no-leading : fieldOf comma s ≡ Wrong → parseOf s ≡ Malformed
   unfolding parseOf
-  no-bits e = simp e
+  no-leading e = simp e
 
   module _ (n a : ℕ) (first : fieldOf comma s ≡ Number n a) where
     no-first : fieldOf comma (drop a s) ≡ Wrong → parseOf s ≡ Malformed
@@ -53,8 +53,8 @@ module _ (s : List ℕ) where
 read-field-requires : tie.Need-read-field-requires
 read-field-requires c κs = search needs
 
-enum-known-bits : tie.Need-enum-known-bits
-enum-known-bits c = search needs
+enum-known-leading : tie.Need-enum-known-leading
+enum-known-leading c = search needs
 
 enum-told : tie.Need-enum-told
 enum-told c = search needs
@@ -62,7 +62,7 @@ enum-told c = search needs
 returns : tie.Need-returns
 returns c =
     let read = c .before .before in
-    sym (no-bits (read .before .before .args .s .now) (sym (read .read-field .ensures) ∙ c .enum-told .given .1))
+    sym (no-leading (read .before .before .args .s .now) (sym (read .read-field .ensures) ∙ c .enum-told .given .1))
 
 -- after the first field
 abbrev Line : tie.After-known-told → List ℕ
@@ -70,8 +70,8 @@ Line c = c .before .before .before .before .before .args .s .now
 
 first :
     (c : tie.After-known-told)
-    → fieldOf comma (Line c) ≡ Number (c .before .bits .given .0 .0) (c .before .bits .given .0 .1 .0)
-first c = sym (c .before .before .before .read-field .ensures) ∙ c .before .bits .given .1
+    → fieldOf comma (Line c) ≡ Number (c .before .leading .given .0 .0) (c .before .leading .given .0 .1 .0)
+first c = sym (c .before .before .before .read-field .ensures) ∙ c .before .leading .given .1
 
 read-field-requires-2 : tie.Need-read-field-requires-2
 read-field-requires-2 c κs = search needs
@@ -93,7 +93,7 @@ past-first c = c .before .before .before .before
 
 second :
     (c : tie.After-known-told2)
-    → fieldOf comma (drop (past-first c .before .bits .given .0 .1 .0) (Line (past-first c)))
+    → fieldOf comma (drop (past-first c .before .leading .given .0 .1 .0) (Line (past-first c)))
     ≡ Number (c .before .first .given .0 .0) (c .before .first .given .0 .1 .0)
 second c = sym (c .before .before .before .read-field2 .ensures) ∙ c .before .first .given .1
 
@@ -127,7 +127,7 @@ third :
     (c : tie.After-known-told3)
     → fieldOf lineFeed
     (drop
-    (past-first (past-second c) .before .bits .given .0 .1 .0 + past-second c .before .first .given .0 .1 .0)
+    (past-first (past-second c) .before .leading .given .0 .1 .0 + past-second c .before .first .given .0 .1 .0)
     (Line (past-first (past-second c))))
     ≡ Number (c .before .many .given .0 .0) (c .before .many .given .0 .1 .0)
 third c = sym (c .before .before .before .read-field3 .ensures) ∙ c .before .many .given .1
@@ -159,7 +159,7 @@ parse-spec =
     tie.close
     (tie.spec
     read-field-requires
-    enum-known-bits
+    enum-known-leading
     enum-told
     returns
     read-field-requires-2

@@ -14,7 +14,7 @@ request-of-requires c κs = search needs
 returns : tie.Need-returns
 returns c =
     let is = c .request-of .ensures in
-    (ap Begun is, subst (λ (q : Request). Possible (Begun q)) (sym is) (begin-possible _))
+    (ap Begun is, subst (λ (q : Request). Possible (Begun q)) (sym is) (begin-possible _ _))
 
 pub begin-spec : {M : Type 1} → statement M
 begin-spec = tie.close (tie.spec request-of-requires returns)

@@ -3,8 +3,7 @@ use mathlib.Core.Path.{_≡_}
 use native.Mathlib.Omega.{arith}
 use borrow.Author.Needs.{needs}
 use lib.ListN.{length}
-use Rattle.circuit.specs.Places.{rowCount}
-use Rattle.sm3.specs.Message.{blocks}
+use Rattle.circuit.proofs.place.PlaceRange.{most-rows}
 use Rattle.text.proofs.Put.{length-put}
 use Rattle.listing.specs.Listing.{lines}
 use Rattle.listing.specs.Progress.{room}
@@ -13,11 +12,11 @@ use Rattle.listing.proofs.progress.fill.Statement.{statement}
 use Rattle.listing.proofs.progress.fill.Tie as tie
 
 abbrev Inv-loop : tie.InvT-loop
-Inv-loop listing bits many out₀ terms₀ least k₀ left₀ at₀ out terms k left at =
-    Filling (room listing) (lines listing bits) k₀ left₀ out₀ out k left at × (length terms ≡ length terms₀)
+Inv-loop listing circuit many out₀ terms₀ least k₀ left₀ at₀ out terms k left at =
+    Filling (room listing) (lines listing circuit) k₀ left₀ out₀ out k left at × (length terms ≡ length terms₀)
 
 abbrev μ-loop : tie.MeasureT-loop
-μ-loop listing bits many out₀ terms₀ least k₀ left₀ at₀ out terms k left at = left
+μ-loop listing circuit many out₀ terms₀ least k₀ left₀ at₀ out terms k left at = left
 
 room-of-requires : tie.Need-room-of-requires Inv-loop μ-loop
 room-of-requires c κs = search needs
@@ -43,7 +42,7 @@ returns c =
     let at-loop = c .before .before in
     let filling = at-loop .loop .inv .0 in
     let args = at-loop .before .before .before .before .args in
-    handed-full (args .listing) (args .bits) (args .next) (args .many) filling (c .before .loop-test .taken)
+    handed-full (args .listing) (args .circuit) (args .next) (args .many) filling (c .before .loop-test .taken)
     (omega (arith, c .if1 .taken, at-loop .before .room-of .ensures, length-put (filling .put)))
 
 put-lines-requires : tie.Need-put-lines-requires Inv-loop μ-loop
@@ -51,25 +50,18 @@ put-lines-requires c κs =
     let past = c .before .before in
     let at-loop = past .before .before in
     let filling = at-loop .loop .inv .0 in
-    let start = at-loop .before .before .before .before in
-    omega (
-      arith,
-      past .if1 .left,
-      past .before .loop-test .taken,
-      at-loop .before .room-of .ensures,
-      filling .fits,
-      filling .next,
-      length-put (filling .put),
-      at-loop .loop .inv .1,
-      start .pre,
+    let pre = at-loop .before .before .before .before .pre in (
+      omega (arith, past .if1 .left, at-loop .before .room-of .ensures, filling .fits, length-put (filling .put)),
+      pre .1 .0,
+      omega (arith, past .before .loop-test .taken, filling .next, pre .1 .1),
+      omega (arith, at-loop .loop .inv .1, pre .2),
     )
 
 add-k : tie.Need-add-k Inv-loop μ-loop
-unfolding blocks rowCount
 add-k c =
     let at-loop = c .before .before .before .before .before .before .before .before .before in
     let start = at-loop .before .before .before .before in
-    omega (arith, at-loop .loop .inv .0 .next, start .pre)
+    omega (arith, at-loop .loop .inv .0 .next, start .pre .1 .1, most-rows (start .args .circuit) (start .pre .1 .0))
 
 sub-left : tie.Need-sub-left Inv-loop μ-loop
 sub-left c = search needs
@@ -100,7 +92,7 @@ same-length-4 c = c .before .loop .inv .1
 returns-2 : tie.Need-returns-2 Inv-loop μ-loop
 returns-2 c =
     let args = c .before .before .before .before .before .args in
-    handed-all (args .listing) (args .bits) (args .next) (args .many) (c .before .loop .inv .0) (omega (arith, c .loop-test .left))
+    handed-all (args .listing) (args .circuit) (args .next) (args .many) (c .before .loop .inv .0) (omega (arith, c .loop-test .left))
 
 pub fill-spec : {M : Type 1} → statement M
 fill-spec =

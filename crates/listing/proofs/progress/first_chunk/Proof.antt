@@ -31,7 +31,7 @@ returns c =
     let start = arm .before .before in
     let args = start .args in
     let is = refusing (args .listing) (length (args .out .now)) (args .request)
-    (λ bits f h e. ⊎-elim (λ z. omega arith) (λ z. omega arith) (rw e at (arm .match .keys2))) in
+    (λ circuit f h e. ⊎-elim (λ z. omega arith) (λ z. omega arith) (rw e at (arm .match .keys2))) in
     handed (Begun (args .request)) (rw (number .refusal-number .ensures, is .0) at (call .put-refusal .ensures .0))
     (omega (arith, call .put-refusal .ensures .1, start .pre, room-bounds (args .listing) .0))
     (is .1)

@@ -37,7 +37,7 @@ fill-requires c κs =
     let arm = c .before .before .before in
     let pre = arm .before .before .before .before .pre in
     let exist = rw (arm .progress2 .given .1) at (pre .1) in
-    omega (arith, pre .0, exist, pre .2)
+    (omega (arith, pre .0), exist, omega (arith, pre .2))
 
 enum-told : tie.Need-enum-told
 enum-told c = search needs

@@ -10,13 +10,19 @@ enum-told : tie.Need-enum-told
 enum-told c = search needs
 
 put-row-requires : tie.Need-put-row-requires
-put-row-requires c κs = omega (arith, ap room (c .before .before .enum-told .given .1))
+put-row-requires c κs =
+    let pre = c .before .before .before .before .before .before .pre in
+    let same = ap room (c .before .before .enum-told .given .1) in
+    (omega (arith, pre .0, same), pre .1, pre .2, pre .3)
 
 enum-told-2 : tie.Need-enum-told-2
 enum-told-2 c = search needs
 
 put-step-line-requires : tie.Need-put-step-line-requires
-put-step-line-requires c κs = omega (arith, ap room (c .before .enum-told2 .given .1))
+put-step-line-requires c κs =
+    let pre = c .before .before .before .before .before .pre in
+    let same = ap room (c .before .enum-told2 .given .1) in
+    (omega (arith, pre .0, same), pre .1, pre .2)
 
 same-length : tie.Need-same-length
 same-length c = search needs

@@ -5,9 +5,9 @@ use native.Mathlib.Omega.{arith}
 use borrow.Author.Needs.{needs}
 use Rattle.circuit.proofs.place.PlaceRange.{in-circuit}
 use Rattle.circuit.specs.Circuit.{formAt}
+use Rattle.circuit.specs.Circuits.{blockCount}
 use Rattle.circuit.specs.Places.{placeAt}
 use Rattle.circuit.specs.Ranges.{InCircuit}
-use Rattle.sm3.specs.Message.{blocks}
 use Rattle.text.proofs.Put.{put-then}
 use Rattle.listing.specs.Steps.{stepLine}
 use Rattle.listing.proofs.step.put_step_line.Statement.{statement}
@@ -19,11 +19,11 @@ block-count-requires c κs = search needs
 place-of-requires : tie.Need-place-of-requires
 place-of-requires c κs = search needs
 
--- the blocks are counted from the bits
+-- the blocks are the circuit's
 at-place :
     (c : tie.After-place-of)
     → c .place-of .result
-    ≡ placeAt (blocks (c .before .before .before .args .bits)) (c .before .before .before .args .row .0)
+    ≡ placeAt (blockCount (c .before .before .before .args .circuit)) (c .before .before .before .args .row .0)
 at-place c =
     c .place-of .ensures
     ∙ ap (λ (b : ℕ). placeAt b (c .before .before .before .args .row .0)) (c .before .block-count .ensures .0)

@@ -44,7 +44,7 @@ returns c =
     let held = filled .row-terms .last .1 .1 .0 in
     let counts = filled .row-terms .result in
     let is = filled .row-terms .ensures in
-    let r = rowAt (args .bits) (args .row .0) in
+    let r = rowAt (args .circuit) (args .row .0) in
     let whole = filled-front is (omega (arith, is .few, filled .before .before .before .before .pre)) in
     let place : counts .a + counts .b ≡ length (r .A) + length (r .B) = omega (arith, is .a, is .b) in (
       put-then

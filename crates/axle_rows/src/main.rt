@@ -1,0 +1,8 @@
+// Prints what the line on standard input, with the bounds on axles at its front, asks for.
+use listing::program::run;
+use listing::progress::Listing;
+use listing::request::Front;
+
+fn main() {
+    run(Listing::Rows, Front::Bounds);
+}
