@@ -14,7 +14,7 @@ use lib.ListN.{length}
 use Rattle.block.proofs.exact.Block.{blockForms}
 use Rattle.block.specs.Steps.{blockRows}
 use Rattle.block.specs.declared.step.Step.the-variants.{Message}
-use Rattle.circuit.proofs.exact.Frame.{block-row}
+use Rattle.circuit.proofs.exact.Frame.{block-row, start-row}
 use Rattle.circuit.proofs.place.FormLayout.{form-at}
 use Rattle.circuit.specs.Circuit.{begins, digestForm, formAt, formOf, messageForm, rowAt}
 use Rattle.circuit.specs.Circuits.{messageOf}
@@ -73,10 +73,6 @@ bit-rows r i b l h =
 -- Rows that are made of the count of blocks.
 module _ (n m k : ℕ) (same : blocks n ≡ blocks m) (below : k < rowCount (Record n)) (also : k < rowCount (Record m))
     (other : (i b : ℕ) → i < blocks n → b < 512 → k ≡ 256 + (blockRows * i + b) → ⊥) where
-  start-row : k < 256 → formAt (Record n) k ≡ formAt (Record m) k
-  unfolding frameLayout grid formOf
-  start-row l = form-at (Record n) k below ∙ beside-first 256 _ _ k l ∙ sym (form-at (Record m) k also ∙ beside-first 256 _ _ k l)
-
   block-rest : (i b : ℕ) → i < blocks n → b < blockRows → k ≡ 256 + (blockRows * i + b) → formAt (Record n) k ≡ formAt (Record m) k
   unfolding begins
   block-rest i b l h e =
@@ -101,7 +97,7 @@ module _ (n m k : ℕ) (same : blocks n ≡ blocks m) (below : k < rowCount (Rec
   same-row : formAt (Record n) k ≡ formAt (Record m) k
   unfolding rowCount
   same-row =
-      by-cases (decLt k 256) start-row
+      by-cases (decLt k 256) (λ l. start-row (Record n) k l ∙ sym (start-row (Record m) k l))
       (λ past.
       by-cases (decLt (k - 256) (blockRows * blocks n))
       (λ l. block-rest ((k - 256) / blockRows) ((k - 256) % blockRows) (omega arith) (omega arith) (omega arith))

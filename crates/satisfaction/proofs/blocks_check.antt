@@ -1,1 +1,2 @@
 pub mod BlockHolds
+pub mod StartHolds

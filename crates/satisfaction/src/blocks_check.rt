@@ -15,6 +15,7 @@ ghost use Rattle.satisfaction.specs.Failing.{isFailing};
 ghost use Rattle.satisfaction.specs.Lowest.{lowest};
 ghost use Rattle.sm3.specs.Sm3.{rotatedConstant};
 use crate::agreement::block_wires::block_agrees;
+use crate::agreement::wires::state_agrees;
 use crate::rows_check::Verdict;
 use crate::rows_check::lowest_between;
 use block::place::BLOCK_ROWS;
@@ -24,9 +25,12 @@ use circuit::circuits::message_of;
 use circuit::message::beginning;
 use circuit::place::STATE_ROWS;
 use circuit::place::row_count;
+use circuit::wire::START;
 use circuit::wire::block_first;
 use refusal::numbers::RowNumber;
+use refusal::numbers::WireNumber;
 use sm3::constants::rotated_constants;
+use sm3::constants::start_state;
 
 // Whether a row is not satisfied.
 fn is_failing(verdict: Verdict) -> bool
@@ -36,6 +40,18 @@ fn is_failing(verdict: Verdict) -> bool
         Verdict::AllSatisfied => false,
         Verdict::Fails(_) => true,
     }
+}
+
+// The lowest start row that is not satisfied, if there is one. Where the start wires have the start words, all of them hold; else
+// they are judged one by one.
+fn lowest_at_start(circuit: Circuit, assignment: &[u8]) -> Verdict
+    requires { ⌜ Allowed circuit × (length (now assignment) ≡ 8 * wireCount circuit) × (entry (now assignment) 0 ≡ 1) ⌝ }
+    ensures { λ r. ⌜ r ≡ lowest (entry (now (assignment .entry))) (rowAt circuit) 0 stateRows ⌝ }
+{
+    if state_agrees(assignment, WireNumber(START), start_state()) {
+        return Verdict::AllSatisfied;
+    }
+    lowest_between(circuit, RowNumber(0), RowNumber(STATE_ROWS), assignment)
 }
 
 // The lowest row of block i that is not satisfied, if there is one. The rows of its 512 bits are judged one by one. Where the
@@ -71,7 +87,7 @@ pub fn lowest_unsatisfied(circuit: Circuit, assignment: &[u8]) -> Verdict
     ensures { λ r. ⌜ r ≡ lowest (entry (now (assignment .entry))) (rowAt circuit) 0 (rowCount circuit) ⌝ }
 {
     let count = row_count(circuit);
-    let start = lowest_between(circuit, RowNumber(0), RowNumber(STATE_ROWS), assignment);
+    let start = lowest_at_start(circuit, assignment);
     if is_failing(start) {
         return start;
     }

@@ -73,6 +73,11 @@ module _ (C : Circuit) (a : ℕ → ℕ) where
       Iff·trans (each-beside (λ k f. Satisfied a (rowOf f)) c (256 + appendedRows C) _ _)
       (and-given Iff·rfl (λ blocks. each-beside (λ k f. Satisfied a (rowOf f)) 256 (appendedRows C) _ _))))))
 
+-- a start row
+pub start-row : (C : Circuit) (k : ℕ) → k < 256 → formAt C k ≡ grid 32 startForm k
+unfolding frameLayout formOf rowCount
+start-row C k l = form-at C k (omega arith) ∙ beside-first 256 _ _ k l
+
 -- row k of block i
 pub block-row : (C : Circuit) (i k : ℕ) → i < blockCount C → k < blockRows → formAt C (256 + (blockRows * i + k)) ≡ blockRowsOf C i k
 unfolding frameLayout blockLayout roundsLayout roundLayout expansionLayout formOf blockForms roundsForms roundForms expansionForms rowCount

@@ -24,11 +24,8 @@ abbrev μ-loop : tie.MeasureT-loop
 row-count-requires : tie.Need-row-count-requires Inv-loop μ-loop
 row-count-requires c κs = search needs
 
-lowest-between-requires : tie.Need-lowest-between-requires Inv-loop μ-loop
-unfolding rowCount
-lowest-between-requires c κs =
-    let p = c .before .before .pre in
-    (p .0, p .1, omega arith, omega arith)
+lowest-at-start-requires : tie.Need-lowest-at-start-requires Inv-loop μ-loop
+lowest-at-start-requires c κs = search needs
 
 is-failing-requires : tie.Need-is-failing-requires Inv-loop μ-loop
 is-failing-requires c κs = search needs
@@ -39,7 +36,7 @@ returns c =
     let found = c .before .before in
     sym
     (ap (lowest _ _ 0) (sym (sub-zero _))
-    ∙ lowest-among _ _ _ 0 stateRows (omega arith) _ (found .lowest-between .ensures) (sym (c .before .is-failing .ensures) ∙ c .if1 .taken))
+    ∙ lowest-among _ _ _ 0 stateRows (omega arith) _ (found .lowest-at-start .ensures) (sym (c .before .is-failing .ensures) ∙ c .if1 .taken))
 
 block-count-requires : tie.Need-block-count-requires Inv-loop μ-loop
 block-count-requires c κs = search needs
@@ -55,7 +52,7 @@ loop-holds c =
     let first : 0 + stateRows ≡ stateRows + blockRows * 0 = omega arith in (
       omega arith,
       ap (lowest _ _ 0) (sym (sub-zero _))
-          ∙ lowest-after _ _ _ 0 stateRows (omega arith) _ (found .lowest-between .ensures)
+          ∙ lowest-after _ _ _ 0 stateRows (omega arith) _ (found .lowest-at-start .ensures)
           (sym (tested .is-failing .ensures) ∙ c .before .before .if1 .left)
           ∙ lowest-same _ _ refl first,
     )
@@ -106,15 +103,15 @@ loop-again c =
           ∙ lowest-same _ _ refl next,
     )
 
-mul-t16 : tie.Need-mul-t16 Inv-loop μ-loop
-mul-t16 c = omega (arith, c .before .before .before .block-count .ensures .2)
+mul-t14 : tie.Need-mul-t14 Inv-loop μ-loop
+mul-t14 c = omega (arith, c .before .before .before .block-count .ensures .2)
 
-add-t17 : tie.Need-add-t17 Inv-loop μ-loop
-add-t17 c = omega (arith, c .before .before .before .block-count .ensures .2)
+add-t15 : tie.Need-add-t15 Inv-loop μ-loop
+add-t15 c = omega (arith, c .before .before .before .block-count .ensures .2)
 
-lowest-between-requires-2 : tie.Need-lowest-between-requires-2 Inv-loop μ-loop
+lowest-between-requires : tie.Need-lowest-between-requires Inv-loop μ-loop
 unfolding rowCount
-lowest-between-requires-2 c κs =
+lowest-between-requires c κs =
     let counted = c .before .before .before in
     let rows = counted .before .before .before .before in
     let p = rows .before .before .pre in (
@@ -132,7 +129,7 @@ returns-3 c =
     let i = turn .loop .i in
     let last : stateRows + blockRows * i ≡ stateRows + blockRows * counted .block-count .result =
     omega (arith, turn .loop .inv .0, c .before .loop-test .left) in
-    c .lowest-between2 .ensures
+    c .lowest-between .ensures
     ∙ sym
     (turn .loop .inv .1
     ∙ lowest-same _ _ (sym (rows .row-count .ensures .0)) last)
@@ -144,7 +141,7 @@ lowest-unsatisfied-spec =
     Inv-loop
     μ-loop
     row-count-requires
-    lowest-between-requires
+    lowest-at-start-requires
     is-failing-requires
     returns
     block-count-requires
@@ -156,7 +153,7 @@ lowest-unsatisfied-spec =
     add-i
     loop-less
     loop-again
-    mul-t16
-    add-t17
-    lowest-between-requires-2
+    mul-t14
+    add-t15
+    lowest-between-requires
     returns-3)
