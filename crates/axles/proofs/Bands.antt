@@ -2,7 +2,7 @@
 -- the test asks of two bytes is what the appended rows ask of their bits.
 use mathlib.Core.Bool.{and-eq-true-iff, true}
 use mathlib.Core.List.{List}
-use mathlib.Core.Logic.{_↔_, Iff·trans}
+use mathlib.Core.Logic.{_↔_}
 use mathlib.Core.Path.{_≡_, _∙_, ap, ap₂, sym}
 use Prim.Native.Nat.{ℕ, _+_, _-_, _*_, _/_, _%_, _^_, _<_, _≤_}
 use native.Mathlib.Omega.{arith}
@@ -91,7 +91,7 @@ module _ (bytes : List ℕ) (k : ℕ) where
       bit-at l (omega arith) ∙ ap (λ (m : ℕ). byte / 2 ^ m % 2) weight ∙ ap (λ (x : ℕ). x % 2) (sym (shr-shr byte 4 (4 - 1 - l)))
 
   -- the byte is a digit exactly where its halves are one's
-  pub digit-halves : byte < 256 → (IsDigit byte ↔ (Each 4 (λ l. bitOfBytes bytes (8 * k + l) ≡ numberWires 4 3 l) × (digit (bitOfBytes bytes) k ≤ 9)))
+  digit-halves : byte < 256 → (IsDigit byte ↔ (Each 4 (λ l. bitOfBytes bytes (8 * k + l) ≡ numberWires 4 3 l) × (digit (bitOfBytes bytes) k ≤ 9)))
   unfolding numberWires
   digit-halves below = (
     λ (low, high).

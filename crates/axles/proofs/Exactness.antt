@@ -107,7 +107,7 @@ module _ (lower upper : ℕ) (d a : List ℕ) (accepted : IsAccepted lower upper
         },
       )
 
-  pub band-record : Bytes d
+  band-record : Bytes d
       → (r : List ℕ) × IsRecord axleBits r × (digestBytes axleBits r ≡ d) × InBand lower upper r × HasWires lower upper r a
   band-record h =
       let (r, is, digest, wires) = accepted-record axleBits d (front a) front-accepted h in
@@ -144,7 +144,7 @@ module _ (lower upper : ℕ) (r a : List ℕ) (bounds : Allowed (Axles lower upp
       (sym (front-read a k l)
       ∙ read-off axleBits (entry (front a)) (bitOfBytes r) (λ k l. bit-of-bytes-lt r k) (λ w l. ap (entry (front a)) (zero-add w) ∙ front-wires w l) k l)
 
-  pub band-accepted : IsAccepted lower upper (digestBytes axleBits r) a
+  band-accepted : IsAccepted lower upper (digestBytes axleBits r) a
   unfolding rowAt
   band-accepted =
       let passed = front-passed .passed in

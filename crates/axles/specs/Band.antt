@@ -1,7 +1,6 @@
 -- Which records lie in a band (document 02, request 5): "both bytes are digits and the axles lie within the bounds, ends included".
 use mathlib.Core.Bool.{Bool, _&&_}
 use mathlib.Core.List.{List}
-use mathlib.Core.Path.{_≡_}
 use Prim.Native.Nat.{ℕ, _+_, _-_, _*_, _≤_}
 use lib.Dec.{leb}
 use lib.ListN.{getD}

@@ -3,7 +3,6 @@
 use mathlib.Core.Logic.{_↔_}
 use mathlib.Core.Path.{_≡_, _∙_, ap, subst}
 use Prim.Native.Nat.{ℕ, _+_, _*_, _<_, _≤_}
-use native.Mathlib.Nat.{zero-add}
 use native.Mathlib.Omega.{arith}
 use Rattle.axles.proofs.Bands.{BandBits}
 use Rattle.axles.proofs.Counts.{axle-wires, record-wires}
@@ -16,7 +15,7 @@ use Rattle.circuit.specs.Circuit.{formAt, formOf, messageForm}
 use Rattle.circuit.specs.Places.{rowCount}
 use Rattle.circuit.specs.Wires.{wireCount}
 use Rattle.circuit.specs.declared.circuits.Circuit.the-variants.{Axles, Record}
-use Rattle.forms.proofs.exact.Parts.{agree-at, agree-beside}
+use Rattle.forms.proofs.exact.Parts.{agree-beside}
 use Rattle.forms.proofs.exact.Runs.{Agree, Holds, Judged}
 use Rattle.record.proofs.exact.Record.{readOff, record-wire-lt, wire-of-record}
 use Rattle.record.proofs.exact.Whole.{circuit}

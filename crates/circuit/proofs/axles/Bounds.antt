@@ -1,8 +1,8 @@
 -- Bounds that are in range make a circuit that is allowed, and no others do.
-use mathlib.Core.Bool.{Bool, and-eq-true-iff, false, true}
+use mathlib.Core.Bool.{and-eq-true-iff, true}
 use mathlib.Core.Logic.{_↔_}
-use mathlib.Core.Path.{_≡_, refl}
-use Prim.Native.Nat.{ℕ, _≤_}
+use mathlib.Core.Path.{_≡_}
+use Prim.Native.Nat.{ℕ}
 use borrow.Author.Tests.{le-leb, leb-true}
 use lib.Dec.{leb}
 use Rattle.circuit.specs.Axles.{boundsInRange}

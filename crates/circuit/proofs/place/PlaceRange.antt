@@ -5,7 +5,7 @@ use Rattle.block.specs.Steps.{place}
 use Rattle.circuit.proofs.place.WordByWord.{word-by-word}
 use Rattle.circuit.specs.Circuits.{appendedRows, blockCount}
 use Rattle.circuit.specs.Places.{frameRows, placeAt, rowCount}
-use Rattle.circuit.specs.Ranges.{Allowed, InCircuit, InFrame, mostBlocks, mostRows}
+use Rattle.circuit.specs.Ranges.{Allowed, InCircuit, InFrame, mostRows}
 use Rattle.circuit.specs.declared.circuits.Circuit.the-variants.{Record, Axles}
 use Rattle.circuit.specs.declared.circuits.Circuit.{Circuit}
 use Rattle.encoding.proofs.Sequence.{Each, each-beside, each-grid}

@@ -1,7 +1,7 @@
 -- A difference's row and its bits. The row's value is the greater number less the lesser and less the number that the bits write, all far
 -- below p; so the row holds where the greater is the sum of the two. And bits write a number exactly where they are its bits, so rows and
 -- bits agree only where the greater number is no less than the other and their difference has room.
-use mathlib.Core.Bool.{Bool, cond, false, not, true}
+use mathlib.Core.Bool.{Bool, cond, false, true}
 use mathlib.Core.List.{[], _∷_, _++_}
 use mathlib.Core.Logic.{_↔_, Iff·trans}
 use mathlib.Core.Path.{_≡_, _∙_, ap, ap₂, sym}
@@ -28,7 +28,7 @@ use Rattle.forms.specs.declared.form.Form.the-variants.{Bit, Difference}
 use Rattle.refusal.specs.declared.numbers.WireNumber.{WireNumber}
 
 -- bits that write the difference of x and y
-pub difference-bits : (x y n : ℕ) (b : ℕ → ℕ)
+difference-bits : (x y n : ℕ) (b : ℕ → ℕ)
     → ((Each n (λ k. b k < 2) × (x ≡ y + number n b)) ↔ ((y ≤ x) × (x - y < 2 ^ n) × Each n (λ k. b k ≡ numberWires n (x - y) k)))
 unfolding numberWires
 difference-bits x y n b = (

@@ -1,7 +1,6 @@
 -- The terms of a sum's row. A word's 32 terms lie on the 32 wires from its first on, the terms taken off on the 34 from the
 -- result's first on, and the constant's on wire 0. So where these runs of wires do not overlap, all wires differ.
 use mathlib.Core.List.{List, [], _∷_, _++_, append-assoc}
-use mathlib.Core.Path.{_≡_}
 use Prim.Native.Nat.{ℕ, _+_, _-_, _*_, _<_, _≤_, _^_}
 use native.Mathlib.Omega.{arith}
 use lib.ListN.{length, length-append}

@@ -1,23 +1,23 @@
 -- The terms of a difference: how many each part has, that none is zero, and how they are written. The bit i of a number of n bits
 -- weighs 2^(n - 1 - i), which is 64 halved 7 - n + i times, so k times it is between 1 and 640, far below p.
 use mathlib.Core.Bool.{Bool, cond, false, not, true}
-use mathlib.Core.List.{List, [], _∷_, _++_, append-assoc, append-nil}
-use mathlib.Core.Path.{_≡_, _∙_, ap, ap₂, refl, sym}
+use mathlib.Core.List.{List, [], _∷_, _++_, append-nil}
+use mathlib.Core.Path.{_≡_, _∙_, ap, refl, sym}
 use Prim.Native.Nat.{ℕ, _+_, _-_, _*_, _/_, _<_, _≤_, _^_}
 use native.Mathlib.Nat.{mul-le-mul}
 use native.Mathlib.Omega.{arith}
 use lib.Dec.{lit≤}
 use lib.ListN.{length, length-append}
-use lib.Pow.{pow-add, pow-mono, pow-pos, shl-shr, shr-le}
+use lib.Pow.{pow-add, pow-mono, pow-pos, shl-shr}
 use Rattle.encoding.proofs.Tab.{length-tab}
 use Rattle.encoding.specs.Sequence.{tab}
 use Rattle.encoding.specs.Written.{Written}
 use Rattle.field.specs.Field.{p}
-use Rattle.forms.proofs.shape.Nonzero.{keeps, nonzero-append}
+use Rattle.forms.proofs.shape.Nonzero.{keeps}
 use Rattle.forms.proofs.terms.SumTerms.{nonzero-both, nonzero-tab}
 use Rattle.forms.proofs.terms.WrittenTerms.{terms-then}
 use Rattle.forms.specs.Positions.{at, one}
-use Rattle.forms.specs.Rows.{_·_, digitTerms, less, letters, nonzero, numberTerms, signed, terms}
+use Rattle.forms.specs.Rows.{_·_, digitTerms, letters, nonzero, numberTerms, signed, terms}
 use Rattle.forms.specs.Terms.{Filled, FitDifference, flat, unsorted}
 use Rattle.forms.specs.declared.form.Digits.{Digits}
 use Rattle.forms.specs.declared.form.Form.the-variants.{Difference}

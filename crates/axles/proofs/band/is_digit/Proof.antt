@@ -1,5 +1,4 @@
 -- The code's tests are the definition's.
-use borrow.Author.Needs.{needs}
 use borrow.Author.Tests.{le-leb, lt-leb}
 use Rattle.axles.specs.Band.{isDigit}
 use Rattle.axles.proofs.band.is_digit.Statement.{statement}

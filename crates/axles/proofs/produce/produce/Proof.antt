@@ -1,6 +1,6 @@
 -- Each refusal is one case of the answer, told by the tests before it; past them all wires are written from the buffer's front on.
 use mathlib.Core.Bool.{false, true}
-use mathlib.Core.Path.{_≡_, _∙_, ap, refl, sym}
+use mathlib.Core.Path.{_≡_, _∙_, refl, sym}
 use Prim.Native.Nat.{_*_, _<_, _≤_}
 use native.Mathlib.Omega.{arith}
 use borrow.Author.Needs.{needs}

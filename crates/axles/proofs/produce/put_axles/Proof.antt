@@ -1,9 +1,8 @@
 -- The record's wires are written, and behind them the numbers of its two digits, which are the low halves of their bytes.
-use mathlib.Core.Path.{_≡_, _∙_, ap₂, refl, subst, sym}
+use mathlib.Core.Path.{_≡_, ap₂, subst}
 use Prim.Native.Nat.{ℕ, _+_, _-_}
 use native.Mathlib.Omega.{arith}
 use borrow.Author.Needs.{needs}
-use lib.ListN.{getD}
 use Rattle.assignment.proofs.Writes.{length-wrote, wrote-as, wrote-then}
 use Rattle.assignment.specs.Wrote.{Wrote}
 use Rattle.axles.proofs.Bands.{low-half}

@@ -1,5 +1,4 @@
 -- The code's tests are the definition's.
-use borrow.Author.Needs.{needs}
 use borrow.Author.Tests.{le-leb, lt-leb}
 use Rattle.circuit.specs.Axles.{boundsInRange}
 use Rattle.circuit.proofs.axles.bounds_in_range.Statement.{statement}

@@ -1,5 +1,4 @@
 -- The code's test chooses as the definition's does.
-use mathlib.Core.Path.{ap, sym}
 use borrow.Author.Needs.{needs}
 use Rattle.forms.specs.Rows
 use Rattle.forms.proofs.terms.signed.Statement.{statement}

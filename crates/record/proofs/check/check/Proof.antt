@@ -1,5 +1,4 @@
 -- A length out of range is refused; within it the answer is the circuit's.
-use borrow.Author.Needs.{needs}
 use borrow.Author.Tests.{le-ltb, lt-ltb}
 use Rattle.record.specs.Check.{checkAnswer}
 use Rattle.record.proofs.check.check.Statement.{statement}

@@ -1,6 +1,5 @@
 -- Where the start wires agree no start row fails, by `start-holds`; else the rows are judged.
 use mathlib.Core.Path.{_∙_, ap, subst, sym}
-use Prim.Native.Nat.{ℕ}
 use native.Mathlib.Nat.{sub-zero}
 use native.Mathlib.Omega.{arith}
 use borrow.Author.Needs.{needs}
