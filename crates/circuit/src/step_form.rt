@@ -10,7 +10,7 @@ pub mod message;
 use crate::circuits::Circuit;
 use crate::circuits::appended_form;
 use crate::circuits::message_of;
-use crate::message::beginning;
+use crate::wire::beginning;
 use crate::wire::block_first;
 use block::expansion_form::p1_form;
 use block::expansion_form::q_form;

@@ -1,12 +1,15 @@
 // The wires of a circuit: the constant 1, the digest, the start words, the blocks, and what is appended.
 ghost use mathlib.Core.Path.{_≡_};
 ghost use Prim.Native.Nat.{_+_, _<_, _≤_};
-ghost use Rattle.block.specs.Bounds.{BlockAt};
-ghost use Rattle.circuit.specs.Ranges.{Allowed, mostBlocks, mostWires};
+ghost use Rattle.block.specs.Bounds.{BlockAt, BlockFrom};
+ghost use Rattle.circuit.specs.Circuit.{beginsAt};
+ghost use Rattle.circuit.specs.Ranges.{Allowed, OfMessage, mostBlocks, mostWires};
 ghost use Rattle.circuit.specs.Wires.{wireCount, blockFirst};
 use crate::circuits::Circuit;
 use crate::circuits::appended_wires;
 use crate::circuits::block_count;
+use crate::message::MessageSpan;
+use block::wire::RESULT;
 use refusal::numbers::WireNumber;
 
 // The first wire of the digest; wire 0 is the constant 1.
@@ -35,4 +38,17 @@ pub fn block_first(i: u64) -> WireNumber
     ensures { λ r. ⌜ (r .0 ≡ blockFirst i) × BlockAt (r .0) ⌝ }
 {
     WireNumber(FIRST_BLOCK + BLOCK_WIRES * i)
+}
+
+// The first wire of the eight words that block i of a message begins with: the start words where the message begins, else the
+// result of the block before.
+pub fn beginning(message: MessageSpan, i: u64) -> WireNumber
+    requires { ⌜ OfMessage message i ⌝ }
+    ensures { λ r. ⌜ (r .0 ≡ beginsAt message i) × BlockFrom (blockFirst i) (r .0) ⌝ }
+{
+    if i == message.begin {
+        return WireNumber(START);
+    }
+    let before = block_first(i - 1);
+    WireNumber(before.0 + RESULT)
 }

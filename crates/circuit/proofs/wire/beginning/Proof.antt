@@ -2,8 +2,8 @@
 use native.Mathlib.Omega.{arith}
 use borrow.Author.Needs.{needs}
 use borrow.Author.Tests.{eq-eqb, ne-eqb}
-use Rattle.circuit.proofs.message.beginning.Statement.{statement}
-use Rattle.circuit.proofs.message.beginning.Tie as tie
+use Rattle.circuit.proofs.wire.beginning.Statement.{statement}
+use Rattle.circuit.proofs.wire.beginning.Tie as tie
 
 returns : tie.Need-returns
 returns c = (rw (eq-eqb _ _ (c .if1 .taken)), omega arith)
