@@ -3,7 +3,7 @@
 use mathlib.Core.List.{List, [], _∷_}
 use Prim.Native.Nat.{ℕ, _-_, _*_, _^_}
 use Rattle.assignment.specs.Assignment.{entry}
-use Rattle.circuit.specs.declared.circuits.Circuit.the-variants.{Record}
+use Rattle.circuit.specs.declared.circuits.Circuit.the-variants.{Axles, Record}
 use Rattle.record.specs.Check.{checkAnswer}
 use Rattle.record.specs.Produce.{produceAnswer}
 use Rattle.circuit.specs.Wires.{wireCount}
@@ -64,6 +64,9 @@ table =
     ∷ (rowCount (Record 8120) is 517632)
     ∷ (wireCount (Record 8127) is 360961)
     ∷ (rowCount (Record 8127) is 517632)
+    -- document 02, request 5: "append 22 wires", "append 34 rows"
+    ∷ (wireCount (Axles 2 99) is 45591)
+    ∷ (rowCount (Axles 2 99) is 65186)
     -- "2^60 × 2 reads as 1; entry p reads as 0; entry 2^64 - 1 reads as 7"
     ∷ (entry (leastFirst 8 (2 ^ 60 * 2)) 0 is 1)
     ∷ (entry (leastFirst 8 p) 0 is 0)

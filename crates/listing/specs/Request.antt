@@ -1,6 +1,6 @@
 -- What a line asks for, or why it is refused (document 01, "Refusals in checking order").
 use mathlib.Core.Bool.{cond, not}
-use mathlib.Core.List.{List, [], _∷_, _++_}
+use mathlib.Core.List.{List, [], _∷_}
 use Prim.Native.Nat.{ℕ, _+_}
 use lib.Dec.{ltb}
 use Rattle.circuit.specs.Axles.{boundsInRange}
@@ -52,13 +52,8 @@ requestNumber (Rows c f h) = 0
 requestNumber BadLine = 1
 requestNumber (Refused r) = refusalNumber r
 
--- the numbers that tell a circuit from others of its kind
-abbrev circuitValues : Circuit → List ℕ
-circuitValues (Record n) = n ∷ []
-circuitValues (Axles lower upper) = lower ∷ upper ∷ []
-
--- the values of a request: those of a refusal, which are none (`refused-values` of proofs/Requests), or what is asked for
+-- its values: those of a refusal, which are none (`refused-values` of proofs/Requests), or which rows are asked for
 abbrev pub requestValues : Request → List ℕ
-requestValues (Rows c f h) = circuitValues c ++ (f .0 ∷ h ∷ [])
+requestValues (Rows c f h) = f .0 ∷ h ∷ []
 requestValues BadLine = []
 requestValues (Refused r) = refusalValues r
