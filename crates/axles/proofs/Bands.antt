@@ -10,13 +10,14 @@ use borrow.Author.Tests.{le-leb, leb-true}
 use lib.Dec.{leb}
 use lib.ListN.{getD}
 use lib.Pow.{shr-shr}
-use Rattle.axles.specs.Band.{InBand, IsDigit, axlesIn, inBand, isDigit, tensPlace, unitsPlace}
+use Rattle.axles.specs.Band.{InBand, IsDigit, axlesIn, inBand, tensPlace, unitsPlace}
 use Rattle.axles.specs.Layout.{axlesOf, digit, tens, units}
 use Rattle.encoding.proofs.Bits.{number-cong, number-of-bits}
 use Rattle.encoding.proofs.Sequence.{Each}
 use Rattle.encoding.specs.Bits.{bitOfBytes, number}
 use Rattle.encoding.specs.Bytes.{Bytes}
 use Rattle.forms.specs.WordWires.{numberWires}
+use Rattle.text.specs.Decimal.{isDigit}
 
 -- The test.
 

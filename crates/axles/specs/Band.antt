@@ -4,6 +4,7 @@ use mathlib.Core.List.{List}
 use Prim.Native.Nat.{ℕ, _+_, _-_, _*_, _≤_}
 use lib.Dec.{leb}
 use lib.ListN.{getD}
+use Rattle.text.specs.Decimal.{isDigit}
 
 -- "axles (2 digits ..)": bytes 17 and 18 of a passage's line, the tens first
 abbrev pub tensPlace : ℕ
@@ -26,9 +27,6 @@ pub record InBand (lower upper : ℕ) (bytes : List ℕ) : Type 0 where
   pub most : axlesIn bytes ≤ upper
 
 -- the test. That it says so is `band-iff` of proofs/Bands
-unfoldable pub isDigit : ℕ → Bool
-isDigit b = leb 48 b && leb b 57
-
 unfoldable pub inBand : ℕ → ℕ → List ℕ → Bool
 inBand lower upper bytes =
     isDigit (getD bytes tensPlace 0)
