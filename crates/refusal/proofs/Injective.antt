@@ -10,7 +10,7 @@ use Rattle.refusal.specs.Refusals.{refusalNumber, refusalValues}
 use Rattle.refusal.specs.declared.outcome.Outcome.{Outcome}
 use Rattle.refusal.specs.declared.outcome.Outcome.the-variants.{Done, Refused}
 use Rattle.refusal.specs.declared.outcome.Refusal.{Refusal}
-use Rattle.refusal.specs.declared.outcome.Refusal.the-variants.{LengthAboveLimit, RowOutOfRange, BufferTooShort, DigestNot32, WrongLength, WireZero, DigestWire, Unsatisfied, EntryNotBit, WrongPackedLength, SpareBit, WrongRecordLength, BitAfterRecord, LineNot63, WrongByte, LaneOrAxlesTooLow, BoundsOutOfRange, NotInBand}
+use Rattle.refusal.specs.declared.outcome.Refusal.the-variants.{LengthAboveLimit, RowOutOfRange, BufferTooShort, DigestNot32, WrongLength, WireZero, DigestWire, Unsatisfied, EntryNotBit, WrongPackedLength, SpareBit, WrongRecordLength, BitAfterRecord, LineNot63, WrongByte, LaneOrAxlesTooLow, BoundsOutOfRange, NotInBand, EntryNotBelowPrime}
 
 -- what can be read back is equal where its numbers are
 pub injective : {A : Type 0} (f : A → ℕ) (g : ℕ → A) {a b : A} → g (f a) ≡ a → g (f b) ≡ b → f a ≡ f b → a ≡ b
@@ -39,7 +39,8 @@ refusalOfNumber n k =
     (cond (eqb n 15) LineNot63
     (cond (eqb n 16) (WrongByte (record { 0 = k }))
     (cond (eqb n 17) LaneOrAxlesTooLow
-    (cond (eqb n 18) BoundsOutOfRange NotInBand))))))))))))))))
+    (cond (eqb n 18) BoundsOutOfRange
+    (cond (eqb n 19) NotInBand (EntryNotBelowPrime (record { 0 = k })))))))))))))))))))
 
 refusalBack : ℕ → Refusal
 refusalBack v = refusalOfNumber (v % 256) (v / 256)
@@ -74,6 +75,8 @@ refusal-back (WrongByte b) =
 refusal-back LaneOrAxlesTooLow = refl
 refusal-back BoundsOutOfRange = refl
 refusal-back NotInBand = refl
+refusal-back (EntryNotBelowPrime w) =
+    named-back 20 (w .0) (packed (refusalNumber (EntryNotBelowPrime w)) (refusalValues (EntryNotBelowPrime w))) (omega arith) (omega arith)
 
 pub refusal-injective : (r s : Refusal)
     → packed (refusalNumber r) (refusalValues r) ≡ packed (refusalNumber s) (refusalValues s) → r ≡ s
@@ -100,6 +103,7 @@ refused (WrongByte b) e = omega arith
 refused LaneOrAxlesTooLow e = omega arith
 refused BoundsOutOfRange e = omega arith
 refused NotInBand e = omega arith
+refused (EntryNotBelowPrime w) e = omega arith
 
 pub outcome-injective : (a b : Outcome) → packedOutcome a ≡ packedOutcome b → a ≡ b
 outcome-injective Done Done e = refl

@@ -5,7 +5,7 @@ use Prim.Native.Nat.{ℕ}
 use Rattle.refusal.specs.declared.outcome.Outcome.{Outcome}
 use Rattle.refusal.specs.declared.outcome.Outcome.the-variants.{Done, Refused}
 use Rattle.refusal.specs.declared.outcome.Refusal.{Refusal}
-use Rattle.refusal.specs.declared.outcome.Refusal.the-variants.{LengthAboveLimit, RowOutOfRange, BufferTooShort, DigestNot32, WrongLength, WireZero, DigestWire, Unsatisfied, EntryNotBit, WrongPackedLength, SpareBit, WrongRecordLength, BitAfterRecord, LineNot63, WrongByte, LaneOrAxlesTooLow, BoundsOutOfRange, NotInBand}
+use Rattle.refusal.specs.declared.outcome.Refusal.the-variants.{LengthAboveLimit, RowOutOfRange, BufferTooShort, DigestNot32, WrongLength, WireZero, DigestWire, Unsatisfied, EntryNotBit, WrongPackedLength, SpareBit, WrongRecordLength, BitAfterRecord, LineNot63, WrongByte, LaneOrAxlesTooLow, BoundsOutOfRange, NotInBand, EntryNotBelowPrime}
 
 abbrev pub refusalNumber : Refusal → ℕ
 -- "2. The record length is above" the limit, from document 02's request 2 on 8,127 bits
@@ -44,6 +44,8 @@ refusalNumber LaneOrAxlesTooLow = 17
 refusalNumber BoundsOutOfRange = 18
 -- "19, to the producer, a record that does not meet this": its two bytes are digits, and the axles lie within the bounds
 refusalNumber NotInBand = 19
+-- document 02, request 6: "20, an entry of p or more"
+refusalNumber (EntryNotBelowPrime w) = 20
 
 abbrev pub refusalValues : Refusal → List ℕ
 refusalValues LengthAboveLimit = []
@@ -67,6 +69,8 @@ refusalValues (WrongByte b) = b .0 ∷ []
 refusalValues LaneOrAxlesTooLow = []
 refusalValues BoundsOutOfRange = []
 refusalValues NotInBand = []
+-- "lowest wire returned"
+refusalValues (EntryNotBelowPrime w) = w .0 ∷ []
 
 -- the answer of an operation that hands nothing back: 0 for no refusal
 abbrev pub outcomeNumber : Outcome → ℕ

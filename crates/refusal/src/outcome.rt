@@ -44,6 +44,8 @@ pub enum Refusal {
     BoundsOutOfRange,
     // 19: the record's axles are no digits or lie outside the bounds.
     NotInBand,
+    // 20: the lowest wire whose entry is p or more.
+    EntryNotBelowPrime(WireNumber),
 }
 
 // The answer of an operation that hands nothing back: it is done, or it is refused and no lent byte is altered.
@@ -75,5 +77,6 @@ pub fn number_of(refusal: Refusal) -> u64
         Refusal::LaneOrAxlesTooLow => 17,
         Refusal::BoundsOutOfRange => 18,
         Refusal::NotInBand => 19,
+        Refusal::EntryNotBelowPrime(_) => 20,
     }
 }

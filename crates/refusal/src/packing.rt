@@ -30,6 +30,7 @@ fn value_of(refusal: Refusal) -> u64
         Refusal::LaneOrAxlesTooLow => 0,
         Refusal::BoundsOutOfRange => 0,
         Refusal::NotInBand => 0,
+        Refusal::EntryNotBelowPrime(wire) => wire.0,
     }
 }
 

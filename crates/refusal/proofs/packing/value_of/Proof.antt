@@ -1,4 +1,4 @@
--- Each arm is told which refusal it is at; three of them have a value.
+-- Each arm is told which refusal it is at; four of them have a value.
 use mathlib.Core.Path.{ap, sym}
 use native.Mathlib.Omega.{arith}
 use borrow.Author.Needs.{needs}
@@ -61,6 +61,9 @@ enum-told-14 c = search needs
 enum-told-15 : tie.Need-enum-told-15
 enum-told-15 c = search needs
 
+enum-known-refusal-4 : tie.Need-enum-known-refusal-4
+enum-known-refusal-4 c = search needs
+
 returns : tie.Need-returns
 returns c = sym (ap (λ r. above (refusalValues r)) (c .enum-told .given .1))
 
@@ -115,6 +118,9 @@ returns-17 c = sym (ap (λ r. above (refusalValues r)) (c .enum-told14 .given .1
 returns-18 : tie.Need-returns-18
 returns-18 c = sym (ap (λ r. above (refusalValues r)) (c .enum-told15 .given .1))
 
+returns-19 : tie.Need-returns-19
+returns-19 c = omega (arith, ap (λ r. above (refusalValues r)) (c .before .refusal4 .given .1))
+
 pub value-of-spec : {M : Type 1} → statement M
 value-of-spec =
     tie.close
@@ -137,6 +143,7 @@ value-of-spec =
     enum-told-13
     enum-told-14
     enum-told-15
+    enum-known-refusal-4
     returns
     returns-2
     returns-3
@@ -154,4 +161,5 @@ value-of-spec =
     returns-15
     returns-16
     returns-17
-    returns-18)
+    returns-18
+    returns-19)
