@@ -11,7 +11,7 @@ use lib.Dec.{lit<, lit≤}
 use lib.ListN.{getD, length, set}
 use Rattle.encoding.proofs.Tab.{getD-tab, length-tab}
 use Rattle.encoding.proofs.Written.{written-one, written-then}
-use Rattle.encoding.specs.Bytes.{fromLeastFirst, highestFirst, leastFirst}
+use Rattle.encoding.specs.Bytes.{Bytes, fromLeastFirst, highestFirst, leastFirst}
 use Rattle.encoding.specs.Sequence.{tab}
 use Rattle.encoding.specs.Written.{Written}
 
@@ -45,6 +45,24 @@ from-least-first n v =
     from-digits n (leastFirst n v) 0 (λ i. v / 256 ^ i % 256)
     (λ i l. ap (λ j. getD (leastFirst n v) j 0) (zero-add i) ∙ getD-tab n (λ i. v / 256 ^ i % 256) i 0 l)
     ∙ digits-of n v
+
+-- .. and each byte is read back from the number that they write
+pub byte-of-number : (n : ℕ) (bytes : List ℕ) → Bytes bytes → (k i : ℕ) → i < n
+    → fromLeastFirst n bytes k / 256 ^ i % 256 ≡ getD bytes (k + i) 0
+unfolding fromLeastFirst
+byte-of-number zero bytes h k i l = absurd (omega arith)
+byte-of-number (suc n) bytes h k zero l =
+    ap (λ x. x % 256) (div-one _) ∙ omega (arith, h k) ∙ ap (λ j. getD bytes j 0) (sym (add-zero k))
+byte-of-number (suc n) bytes h k (suc i) l =
+    let rest : ℕ = fromLeastFirst n bytes (k + 1) in
+    let above : (getD bytes k 0 + 256 * rest) / 256 ≡ rest = omega (arith, h k) in
+    let place : k + 1 + i ≡ k + suc i = omega arith in
+    ap (λ x. x % 256)
+    (ap (λ m. (getD bytes k 0 + 256 * rest) / m) (pow-succ' 256 i)
+    ∙ sym (div-div-eq-div-mul (getD bytes k 0 + 256 * rest) 256 (256 ^ i))
+    ∙ ap (λ x. x / 256 ^ i) above)
+    ∙ byte-of-number n bytes h (k + 1) i (omega arith)
+    ∙ ap (λ j. getD bytes j 0) place
 
 -- only the n bytes that are read count
 pub from-bytes-congruent : (n : ℕ) (xs ys : List ℕ) (j k : ℕ) → ((i : ℕ) → i < n → getD xs (j + i) 0 ≡ getD ys (k + i) 0)

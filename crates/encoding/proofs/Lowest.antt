@@ -59,6 +59,17 @@ module _ {A : Type 0} (holds : ℕ → Bool) (found : ℕ → A) where
       (λ i other. ap found (by-cases (decLt i j) (λ l. absurd (never (low .lower-hold i (other .at-least) l) (other .fails)))
       (λ g. by-cases (decLt j i) (λ l. absurd (never (other .lower-hold j (low .at-least) l) (low .fails))) (λ h. omega arith))))
 
+  -- what a function makes of the answer
+  pub lowest-map : {B : Type 0} (f : A → B) (none : A) (k m : ℕ)
+      → f (lowestFailing holds found none k m) ≡ lowestFailing holds (λ i. f (found i)) (f none) k m
+  unfolding lowestFailing
+  lowest-map {B} f none k zero = refl
+  lowest-map {B} f none k (suc m) = by-test (holds k) (lowest-map f none (suc k) m)
+    where
+      by-test : {x : A} {y : B} (t : Bool) → f x ≡ y → f (cond t x (found k)) ≡ cond t y (f (found k))
+      by-test true e = e
+      by-test false e = refl
+
   -- m places, then n more
   lowest-add : (none : A) (m k n : ℕ)
       → lowestFailing holds found none k (m + n) ≡ lowestFailing holds found (lowestFailing holds found none (k + m) n) k m

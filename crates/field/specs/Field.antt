@@ -5,6 +5,6 @@ use Prim.Native.Nat.{ℕ, _%_}
 abbrev pub p : ℕ
 p = 2305843009213693951
 
--- what a number reads as: "read modulo p"
+-- what a number reads as "modulo p"
 abbrev pub residue : ℕ → ℕ
 residue n = n % p

@@ -15,7 +15,7 @@ const TWO_30: u64 = 1073741824;
 
 // The residue of any 64-bit number. 8 p < 2^64, so one conditional subtraction alone would not do:
 // the bits from 2^61 up are added to those below first.
-pub fn reduce(x: u64) -> u64
+fn reduce(x: u64) -> u64
     ensures { λ r. ⌜ r ≡ x % p ⌝ }
 {
     let folded = x / TWO_61 + x % TWO_61;
