@@ -1,32 +1,40 @@
--- Entries and their bytes: entry w is read from bytes 8 w to 8 w + 7 and from no others, and eight bytes read back the number
--- below 2^64 that they were written from.
+-- Entries and their bytes: entry w is read from bytes 8 w to 8 w + 7 and from no others; eight bytes read back the number below 2^64
+-- that they were written from, and a number writes the eight bytes again that it was read from.
 use mathlib.Core.List.{List, [], _++_}
 use mathlib.Core.Logic.{by-cases}
-use mathlib.Core.Path.{_≡_, _∙_, ap, fun-ext, refl, subst, sym}
+use mathlib.Core.Path.{_≡_, _∙_, ap, refl, subst, sym}
 use Prim.Native.Nat.{ℕ, zero, suc, _+_, _*_, _/_, _%_, _^_, _<_, _≤_}
 use native.Mathlib.Decide.{decLt}
 use native.Mathlib.Nat.{mod-eq-of-lt, mod-lt, zero-add}
 use native.Mathlib.Omega.{arith}
 use lib.Dec.{lit<}
-use lib.ListN.{List·getD-append, List·getD-eq-default, getD, length, length-append, take}
-use lib.Seq.{getD-append-add, getD-take}
-use Rattle.assignment.specs.Assignment.{entry, entryBytes}
-use Rattle.encoding.proofs.Bytes.{from-bytes-congruent, from-least-first, length-least-first}
+use lib.ListN.{List·getD-append, List·getD-eq-default, drop, getD, length, length-append, take}
+use lib.Seq.{ext-getD, getD-append-add, getD-drop, getD-take, take-append-seam}
+use Rattle.assignment.specs.Assignment.{entry, entryBytes, wireBytes}
+use Rattle.encoding.proofs.Bytes.{byte-of-number, from-bytes-congruent, from-least-first, length-least-first}
 use Rattle.encoding.proofs.Tab.{getD-tab}
 use Rattle.encoding.specs.Bytes.{Bytes, fromLeastFirst, leastFirst}
-use Rattle.field.specs.Field.{p}
-
-pub entry-lt : (bytes : List ℕ) (w : ℕ) → entry bytes w < p
-unfolding entry
-entry-lt bytes w = mod-lt (fromLeastFirst 8 bytes (8 * w)) (lit< tt)
 
 -- the bytes of n entries are enough to read each
 pub entry-take : (n : ℕ) (bytes : List ℕ) (w : ℕ) → w < n → entry (take (8 * n) bytes) w ≡ entry bytes w
 unfolding entry
 entry-take n bytes w h =
-    ap (λ x. x % p)
-    (from-bytes-congruent 8 (take (8 * n) bytes) bytes (8 * w) (8 * w)
-    (λ i l. getD-take (8 * n) bytes (8 * w + i) 0 (omega arith)))
+    from-bytes-congruent 8 (take (8 * n) bytes) bytes (8 * w) (8 * w)
+    (λ i l. getD-take (8 * n) bytes (8 * w + i) 0 (omega arith))
+
+-- .. and so are the 8 bytes of its wire
+pub entry-of-wire : (a b : List ℕ) (w : ℕ) → wireBytes a w ≡ wireBytes b w → entry a w ≡ entry b w
+unfolding entry wireBytes
+entry-of-wire a b w same = from-wire a ∙ ap (λ l. fromLeastFirst 8 l 0) same ∙ sym (from-wire b)
+  where
+    from-wire : (bytes : List ℕ) → fromLeastFirst 8 bytes (8 * w) ≡ fromLeastFirst 8 (take 8 (drop (8 * w) bytes)) 0
+    from-wire bytes =
+        from-bytes-congruent 8 bytes (take 8 (drop (8 * w) bytes)) (8 * w) 0
+        (λ i l.
+        sym
+        (ap (λ k. getD (take 8 (drop (8 * w) bytes)) k 0) (zero-add i)
+        ∙ getD-take 8 (drop (8 * w) bytes) i 0 l
+        ∙ getD-drop (8 * w) bytes i 0))
 
 -- The bytes of n entries.
 
@@ -66,32 +74,39 @@ entries-bytes n s k =
     (mod-lt _ (lit< tt)))
     (λ past. subst (λ x. x < 256) (sym (List·getD-eq-default (entryBytes n s) 0 (omega (arith, length-entries n s)))) (lit< tt))
 
--- each reads back, whatever bytes follow
-pub entry-written : (n : ℕ) (s : ℕ → ℕ) (rest : List ℕ) (w : ℕ) → w < n → s w < 2 ^ 64
-    → entry (entryBytes n s ++ rest) w ≡ s w % p
+-- each reads back
+pub entry-written : (n : ℕ) (s : ℕ → ℕ) (w : ℕ) → w < n → s w < 2 ^ 64 → entry (entryBytes n s) w ≡ s w
 unfolding entry
-entry-written n s rest w h below =
-    ap (λ x. x % p)
-    (from-bytes-congruent 8 (entryBytes n s ++ rest) (leastFirst 8 (s w)) (8 * w) 0
-    (λ i l.
-    List·getD-append (entryBytes n s) rest 0 (8 * w + i) (omega (arith, length-entries n s))
-    ∙ byte-of-entry n s w i h l
-    ∙ ap (λ k. getD (leastFirst 8 (s w)) k 0) (sym (zero-add i)))
+entry-written n s w h below =
+    from-bytes-congruent 8 (entryBytes n s) (leastFirst 8 (s w)) (8 * w) 0
+    (λ i l. byte-of-entry n s w i h l ∙ ap (λ k. getD (leastFirst 8 (s w)) k 0) (sym (zero-add i)))
     ∙ from-least-first 8 (s w)
-    ∙ mod-eq-of-lt below)
+    ∙ mod-eq-of-lt below
 
--- Past the last byte a wire reads as 0, so assignments of one length read the same everywhere if they do so at their wires.
+-- bytes are those of the entries that they write
+pub bytes-of-entries : (n : ℕ) (s : ℕ → ℕ) (a : List ℕ) → Bytes a → length a ≡ 8 * n → ((w : ℕ) → w < n → entry a w ≡ s w)
+    → a ≡ entryBytes n s
+unfolding entry leastFirst
+bytes-of-entries n s a h long same =
+    ext-getD 0 a (entryBytes n s) (long ∙ sym (length-entries n s))
+    (λ k l.
+    let w : ℕ = k / 8 in
+    let i : ℕ = k % 8 in
+    let place : 8 * (k / 8) + k % 8 ≡ k = omega arith in
+    ap (λ j. getD a j 0) (sym place)
+    ∙ sym (byte-of-number 8 a h (8 * w) i (omega arith))
+    ∙ ap (λ x. x / 256 ^ i % 256) (same w (omega arith))
+    ∙ sym (getD-tab 8 (λ i. s w / 256 ^ i % 256) i 0 (omega arith))
+    ∙ sym (byte-of-entry n s w i (omega arith) (omega arith))
+    ∙ ap (λ j. getD (entryBytes n s) j 0) place)
 
-entry-past : (n : ℕ) (bytes : List ℕ) → length bytes ≡ 8 * n → (w : ℕ) → n ≤ w → entry bytes w ≡ 0
+-- what is left at the front of a buffer of which they are written
+pub entries-front : (n : ℕ) (s : ℕ → ℕ) (rest : List ℕ) → take (8 * n) (entryBytes n s ++ rest) ≡ entryBytes n s
+entries-front n s rest =
+    ap (λ k. take k (entryBytes n s ++ rest)) (sym (length-entries n s)) ∙ take-append-seam (entryBytes n s) rest
+
+-- past the last byte a wire reads as 0
+pub entry-past : (n : ℕ) (bytes : List ℕ) → length bytes ≡ 8 * n → (w : ℕ) → n ≤ w → entry bytes w ≡ 0
 unfolding entry fromLeastFirst
 entry-past n bytes long w past =
-    ap (λ x. x % p)
-    (from-bytes-congruent 8 bytes [] (8 * w) 0
-    (λ i l. List·getD-eq-default bytes 0 (omega arith)))
-
-pub entries-same : (n : ℕ) (a b : List ℕ) → length a ≡ 8 * n → length b ≡ 8 * n
-    → ((w : ℕ) → w < n → entry a w ≡ entry b w) → entry a ≡ entry b
-entries-same n a b la lb same =
-    fun-ext
-    (λ w.
-    by-cases (decLt w n) (same w) (λ past. entry-past n a la w (omega arith) ∙ sym (entry-past n b lb w (omega arith))))
+    from-bytes-congruent 8 bytes [] (8 * w) 0 (λ i l. List·getD-eq-default bytes 0 (omega arith))

@@ -1,4 +1,5 @@
 pub mod Entries
+pub mod EntriesBelow
 pub mod HashSums
 pub mod OneMore
 pub mod Writes

@@ -1,5 +1,6 @@
 // Assignments: their entries, and the wires of a block.
 pub mod block_wires;
+pub mod bounded;
 pub mod entry;
 pub mod expansion;
 pub mod rounds;
