@@ -1,4 +1,5 @@
 pub mod Block
 pub mod BlockExpansion
 pub mod BlockRounds
+pub mod FirstRows
 pub mod States

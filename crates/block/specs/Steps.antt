@@ -1,7 +1,7 @@
 -- Which step of the hash a row of a block stands for (document 01, "Rows": "each block in wire order"). The order is that of the
 -- words: `word s j l` is whatever stands at line l of word j of step s, for a row its place.
 use mathlib.Core.Bool.{cond}
-use Prim.Native.Nat.{ℕ, _+_, _*_}
+use Prim.Native.Nat.{ℕ, _+_, _-_, _*_}
 use lib.Dec.{ltb}
 use Rattle.block.specs.declared.place.Place.{Place}
 use Rattle.block.specs.declared.step.Step.the-variants.{Start, Message, Q, P1, W, WPrime, U, Ss2, Ff, Gg, Tt1, Tt2, P0, Result, Digest, Appended}
@@ -54,6 +54,10 @@ lateRows = 35 + 32 + 64 + 32 + 35 + 35 + 64
 -- all rounds
 abbrev pub roundsRows : ℕ
 roundsRows = 16 * earlyRows + 48 * lateRows
+
+-- how many rows of the rounds stand before round j
+abbrev pub rowsBeforeRound : ℕ → ℕ
+rowsBeforeRound j = cond (ltb j 16) (j * earlyRows) (16 * earlyRows + (j - 16) * lateRows)
 
 -- q, P1(q) and Wj
 unfoldable pub expansionLayout : {A : Type 0} → (Step → ℕ → ℕ → A) → ℕ → ℕ → A

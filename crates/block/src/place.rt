@@ -1,7 +1,7 @@
 // Where a row of a block stands: the step of the hash that it belongs to, and which row of that step it is.
 ghost use mathlib.Core.Path.{_≡_};
-ghost use Prim.Native.Nat.{_+_, _<_};
-ghost use Rattle.block.specs.Steps.{blockLayout, expansionLayout, place, roundLayout, roundsLayout};
+ghost use Prim.Native.Nat.{_+_, _<_, _≤_};
+ghost use Rattle.block.specs.Steps.{blockLayout, expansionLayout, place, roundLayout, roundsLayout, roundsRows, rowsBeforeRound};
 use crate::step::Step;
 use crate::step::lines_of;
 
@@ -9,16 +9,16 @@ use crate::step::lines_of;
 pub const BLOCK_ROWS: u64 = 32320;
 
 // Its 512 bits.
-const MESSAGE_ROWS: u64 = 16 * 32;
+pub const MESSAGE_ROWS: u64 = 16 * 32;
 
 // A word of its expansion, with what leads to it.
-const EXPANDED_ROWS: u64 = 192;
+pub const EXPANDED_ROWS: u64 = 192;
 
 // All 52 of them.
-const EXPANSION_ROWS: u64 = 52 * EXPANDED_ROWS;
+pub const EXPANSION_ROWS: u64 = 52 * EXPANDED_ROWS;
 
 // The words W'.
-const W_PRIME_ROWS: u64 = 64 * 32;
+pub const W_PRIME_ROWS: u64 = 64 * 32;
 
 // A round from 0 to 15.
 const EARLY_ROWS: u64 = 329;
@@ -30,7 +30,18 @@ const LATE_ROWS: u64 = 297;
 const EARLY_ROUNDS_ROWS: u64 = 16 * EARLY_ROWS;
 
 // All rounds.
-const ROUNDS_ROWS: u64 = EARLY_ROUNDS_ROWS + 48 * LATE_ROWS;
+pub const ROUNDS_ROWS: u64 = EARLY_ROUNDS_ROWS + 48 * LATE_ROWS;
+
+// How many rows of a block's rounds stand before round j.
+pub fn rows_before_round(j: u64) -> u64
+    requires { ⌜ j ≤ 64 ⌝ }
+    ensures { λ r. ⌜ (r ≡ rowsBeforeRound j) × (r ≤ roundsRows) ⌝ }
+{
+    if j < 16 {
+        return j * EARLY_ROWS;
+    }
+    EARLY_ROUNDS_ROWS + (j - 16) * LATE_ROWS
+}
 
 // A row's place: `index` is j or the number of a word, `line` counts the rows of that step's word from 0.
 pub struct Place {

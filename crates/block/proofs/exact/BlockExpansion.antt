@@ -1,6 +1,6 @@
 -- The expansion of a block. Words 0 to 15 are carried by the block's bits. Given that the words before word j are carried, the
--- rows of q, P1(q) and Wj make those words one after the other, so that word j is carried too. And where all words are
--- carried, the rows of W' make theirs.
+-- rows of q, P1(q) and Wj make those words one after the other, so that word j is carried too. So the rows of the first c words
+-- hold exactly where the wires of those words agree. And where all words are carried, the rows of W' make theirs.
 use mathlib.Core.Bool.{cond}
 use mathlib.Core.List.{List}
 use mathlib.Core.Logic.{_↔_}
@@ -99,10 +99,12 @@ module _ (a : ℕ → ℕ) (J : Judged a) (F : ℕ) (b : ℕ → ℕ) where
           λ i l. carried (16 + i) (late-agrees (16 + i) (omega arith) (e i l)),
         )
 
-    pub expansion-run : Holds a 9984 (grid 192 (λ j. expansionForms F (16 + j)))
-        ↔ Agree a (F + expansionAt) (52 * expansionWidth) (grid expansionWidth (λ j. expansionWires (expansion b 68) (16 + j)))
-    expansion-run =
-        each-at a (F + expansionAt) 52 192 expansionWidth (λ j. qFirst F (16 + j)) _ _ (q-first F)
+    -- the first c words
+    pub expansion-run : (c : ℕ) → c ≤ 52
+        → (Holds a (c * 192) (grid 192 (λ j. expansionForms F (16 + j)))
+        ↔ Agree a (F + expansionAt) (c * expansionWidth) (grid expansionWidth (λ j. expansionWires (expansion b 68) (16 + j))))
+    expansion-run c m =
+        each-at a (F + expansionAt) c 192 expansionWidth (λ j. qFirst F (16 + j)) _ _ (q-first F)
         (λ j l earlier. word-run (16 + j) (omega arith) (omega arith) (words j earlier))
 
     pub words-carried : Agree a (F + expansionAt) (52 * expansionWidth) (grid expansionWidth (λ j. expansionWires (expansion b 68) (16 + j)))

@@ -1,19 +1,22 @@
 -- The rounds of a block. Given that A to H, Wj and W'j are carried, the rows of round j make its words and sums one after the
 -- other, each from what is carried by then; and A to H are then carried where they stand after the round. So by induction
--- each round's rows hold exactly where its wires agree, given that those of the earlier rounds agree.
+-- each round's rows hold exactly where its wires agree, given that those of the earlier rounds agree; and so do the rows of the
+-- first c rounds, all of them early ones or the 16 early ones and some of the later.
 use mathlib.Core.Bool.{cond}
 use mathlib.Core.List.{List}
-use mathlib.Core.Logic.{_↔_}
-use mathlib.Core.Path.{_≡_, ap, refl, subst}
-use Prim.Native.Nat.{ℕ, zero, suc, _+_, _*_, _<_, _≤_}
+use mathlib.Core.Logic.{_↔_, Iff·trans, by-cases}
+use mathlib.Core.Path.{_≡_, ap, refl, subst, subst₂}
+use Prim.Native.Nat.{ℕ, zero, suc, _+_, _-_, _*_, _<_, _≤_}
+use native.Mathlib.Decide.{decLt}
 use native.Mathlib.Omega.{arith}
 use borrow.Author.Tests.{le-ltb, lt-ltb}
 use lib.Dec.{lit<, lit≤, ltb}
 use lib.ListN.{getD}
+use Rattle.block.proofs.exact.FirstRows.{holds-first}
 use Rattle.block.proofs.exact.States.{CarriesState}
 use Rattle.block.specs.BlockWires.{roundWires}
 use Rattle.block.specs.StepForms.{ffForm, ggForm, p0Form, ss1, ss2Form, tt1Form, tt2Form, uForm, word}
-use Rattle.block.specs.Steps.{lines}
+use Rattle.block.specs.Steps.{lines, roundsRows, rowsBeforeRound}
 use Rattle.block.specs.Wires.{StatePosition, ffFirst, ggFirst, moved, p0First, ss2First, stands, tt1First, tt2First, uFirst, wPrimeFirst, roundWidth, roundsAt}
 use Rattle.block.specs.declared.step.Step.the-variants.{Gg}
 use Rattle.encoding.proofs.Regroup.{beside-grid}
@@ -45,6 +48,11 @@ unfoldable pub roundsForms : ℕ → StatePosition → ℕ → Form
 roundsForms F v =
     beside 5264 (grid 329 (λ j. roundForms F (stands F v j) j))
     (grid 297 (λ j. roundForms F (stands F v (16 + j)) (16 + j)))
+
+-- before a round stand no more rows than all rounds have
+pub rowsBeforeRound-le : (c : ℕ) → c ≤ 64 → rowsBeforeRound c ≤ roundsRows
+rowsBeforeRound-le c m =
+    by-cases (decLt c 16) (λ few. rw (lt-ltb c 16 few) (omega arith)) (λ many. rw (le-ltb c 16 (omega arith)) (omega arith))
 
 module _ (a : ℕ → ℕ) (J : Judged a) (F : ℕ) (w : List ℕ) (j : ℕ) (cw : Carries a (word F j) (getD w j 0))
     (cp : Carries a (standing (wPrimeFirst F j)) (pairWord w j)) (s : StatePosition) (S : State) (c : CarriesState a s S) where
@@ -143,28 +151,40 @@ module _ (a : ℕ → ℕ) (J : Judged a) (F : ℕ) (w : List ℕ) (words : (j :
   round-given j l earlier =
       round-run a J F w j (words j (omega arith)) (pairs j l) (stands F v j) (rounds w B j) (rounds-carried j (omega arith) earlier)
 
-  early-run : Holds a 5264 (grid 329 (λ j. roundForms F (stands F v j) j))
-      ↔ Agree a (F + roundsAt) (16 * roundWidth) (grid roundWidth (λ j. roundWires w j (rounds w B j)))
-  early-run =
-      each a (F + roundsAt) 16 329 roundWidth _ _
-      (λ j l earlier. round-given j (omega arith) earlier 64 (ap (λ t. cond t 64 32) (lt-ltb j 16 l)))
+  -- the first c of the rounds 0 to 15
+  early-run : (c : ℕ) → c ≤ 16
+      → (Holds a (c * 329) (grid 329 (λ j. roundForms F (stands F v j) j))
+      ↔ Agree a (F + roundsAt) (c * roundWidth) (grid roundWidth (λ j. roundWires w j (rounds w B j))))
+  early-run c m =
+      each a (F + roundsAt) c 329 roundWidth _ _
+      (λ j l earlier. round-given j (omega arith) earlier 64 (ap (λ t. cond t 64 32) (lt-ltb j 16 (omega arith))))
 
-  late-run : Agree a (F + roundsAt) (16 * roundWidth) (grid roundWidth (λ j. roundWires w j (rounds w B j)))
-      → (Holds a 14256 (grid 297 (λ j. roundForms F (stands F v (16 + j)) (16 + j)))
-      ↔ Agree a (uFirst F 16) (48 * roundWidth) (grid roundWidth (λ j. roundWires w (16 + j) (rounds w B (16 + j)))))
-  late-run early =
-      each-at a (uFirst F 16) 48 297 roundWidth (λ j. uFirst F (16 + j)) _ _ (λ j. omega arith)
+  -- .. and the first c after those
+  late-run : Agree a (F + roundsAt) (16 * roundWidth) (grid roundWidth (λ j. roundWires w j (rounds w B j))) → (c : ℕ) → c ≤ 48
+      → (Holds a (c * 297) (grid 297 (λ j. roundForms F (stands F v (16 + j)) (16 + j)))
+      ↔ Agree a (uFirst F 16) (c * roundWidth) (grid roundWidth (λ j. roundWires w (16 + j) (rounds w B (16 + j)))))
+  late-run early c m =
+      each-at a (uFirst F 16) c 297 roundWidth (λ j. uFirst F (16 + j)) _ _ (λ j. omega arith)
       (λ j l earlier.
       let all = each-add (λ i. Agree a (uFirst F i) roundWidth (roundWires w i (rounds w B i))) 16 j .1
       (agree-row a (F + roundsAt) 16 roundWidth _ early, earlier) in
       round-given (16 + j) (omega arith) all 32 (ap (λ t. cond t 64 32) (le-ltb (16 + j) 16 (omega arith))))
 
-  pub rounds-run : Holds a 19520 (roundsForms F v) ↔ Agree a (F + roundsAt) (64 * roundWidth) (grid roundWidth (λ j. roundWires w j (rounds w B j)))
+  -- the first c rounds
+  pub rounds-run : (c : ℕ) → c ≤ 64
+      → (Holds a (rowsBeforeRound c) (roundsForms F v)
+      ↔ Agree a (F + roundsAt) (c * roundWidth) (grid roundWidth (λ j. roundWires w j (rounds w B j))))
   unfolding roundsForms
-  rounds-run =
-      subst (λ s. Holds a 19520 (roundsForms F v) ↔ Agree a (F + roundsAt) (64 * roundWidth) s)
+  rounds-run c m =
+      by-cases (decLt c 16)
+      (λ few. rw (lt-ltb c 16 few) (Iff·trans (holds-first a (c * 329) 5264 _ _ (omega arith)) (early-run c (omega arith))))
+      (λ many.
+      let width : 16 * roundWidth + (c - 16) * roundWidth ≡ c * roundWidth = omega arith in
+      rw (le-ltb c 16 (omega arith))
+      (subst₂ (λ n s. Holds a (5264 + (c - 16) * 297) (roundsForms F v) ↔ Agree a (F + roundsAt) n s) width
       (beside-grid 16 roundWidth (λ j. roundWires w j (rounds w B j)) (lit< tt))
-      (then-at a (F + roundsAt) (uFirst F 16) 5264 14256 (16 * roundWidth) (48 * roundWidth) _ _ _ _ (omega arith) early-run late-run)
+      (then-at a (F + roundsAt) (uFirst F 16) 5264 ((c - 16) * 297) (16 * roundWidth) ((c - 16) * roundWidth) _ _ _ _ (omega arith)
+      (early-run 16 (lit≤ tt)) (λ early. late-run early (c - 16) (omega arith)))))
 
   -- A to H are carried after the last round
   pub rounds-end : Agree a (F + roundsAt) (64 * roundWidth) (grid roundWidth (λ j. roundWires w j (rounds w B j)))

@@ -87,6 +87,16 @@ block-row C i k l h =
     ∙ beside-first (blockRows * blockCount C) _ _ (blockRows * i + k) (omega arith)
     ∙ grid-at blockRows (blockRowsOf C) i k h
 
+-- a row of the digest
+pub digest-row : (C : Circuit) (k : ℕ) → k < 256
+    → formAt C (256 + (blockRows * blockCount C + k)) ≡ grid 32 (digestForm (blockFirst (blockCount C - 1))) k
+unfolding frameLayout formOf rowCount
+digest-row C k l =
+    form-at C (256 + (blockRows * blockCount C + k)) (omega arith)
+    ∙ beside-then 256 _ _ (blockRows * blockCount C + k)
+    ∙ beside-then (blockRows * blockCount C) _ _ k
+    ∙ beside-first 256 _ _ k l
+
 pub wires-apart : (a : ℕ → ℕ) (c : ℕ) (S : State) (rest : ℕ → ℕ) → Agree a 0 (firstBlock + c) (frameWires S rest)
     ↔ (Agree a 0 1 (λ k. 1)
     × (Agree a digestFirst 256 (stateWires S) × (Agree a startFirst 256 (stateWires start) × Agree a firstBlock c rest)))

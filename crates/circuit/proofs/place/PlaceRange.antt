@@ -1,11 +1,12 @@
--- Every row's place is in range, word by word.
+-- Every row's place is in range, word by word; and no circuit that is allowed has more rows or wires than the most.
 use Prim.Native.Nat.{ℕ, _<_, _≤_}
 use native.Mathlib.Omega.{arith}
 use Rattle.block.specs.Steps.{place}
 use Rattle.circuit.proofs.place.WordByWord.{word-by-word}
-use Rattle.circuit.specs.Circuits.{appendedRows, blockCount}
+use Rattle.circuit.specs.Circuits.{appendedRows, appendedWires, blockCount}
 use Rattle.circuit.specs.Places.{frameRows, placeAt, rowCount}
-use Rattle.circuit.specs.Ranges.{Allowed, InCircuit, InFrame, mostRows}
+use Rattle.circuit.specs.Ranges.{Allowed, InCircuit, InFrame, mostRows, mostWires}
+use Rattle.circuit.specs.Wires.{wireCount}
 use Rattle.circuit.specs.declared.circuits.Circuit.the-variants.{Record, Axles}
 use Rattle.circuit.specs.declared.circuits.Circuit.{Circuit}
 use Rattle.encoding.proofs.Sequence.{Each, each-beside, each-grid}
@@ -33,6 +34,10 @@ few-rows : (C : Circuit) → appendedRows C ≤ 34
 few-rows (Record n) = omega arith
 few-rows (Axles lower upper) = omega arith
 
+few-wires : (C : Circuit) → appendedWires C ≤ 22
+few-wires (Record n) = omega arith
+few-wires (Axles lower upper) = omega arith
+
 pub in-circuit : (C : Circuit) (k : ℕ) → k < rowCount C → InCircuit C (placeAt (blockCount C) k)
 unfolding rowCount
 in-circuit C k l =
@@ -41,3 +46,7 @@ in-circuit C k l =
 pub most-rows : (C : Circuit) → Allowed C → rowCount C ≤ mostRows
 unfolding rowCount
 most-rows C h = omega (arith, few-blocks C h, few-rows C)
+
+pub most-wires : (C : Circuit) → Allowed C → wireCount C ≤ mostWires
+unfolding wireCount
+most-wires C h = omega (arith, few-blocks C h, few-wires C)

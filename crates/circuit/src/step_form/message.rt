@@ -17,7 +17,7 @@ use refusal::numbers::WireNumber;
 use sm3::message::block_count;
 
 // Bit k of a message of so many bits, past its content.
-fn padding_bit(bits: u64, k: u64) -> u64
+pub fn padding_bit(bits: u64, k: u64) -> u64
     requires { ⌜ (bits ≤ mostBits) × (bits ≤ k) × (k < 512 * blocks bits) ⌝ }
     ensures { λ r. ⌜ (r ≡ message bits (λ i. 0) k) × (r < 2) ⌝ }
 {
