@@ -12,12 +12,15 @@ use borrow.Author.Count.{below-more, below-none}
 use borrow.Author.Tests.{eq-eqb, eqb-true}
 use lib.Dec.{eqb, lit≤}
 use lib.ListN.{getD, length}
+use Rattle.assignment.proofs.EntriesBelow.{below-all, limit-past}
 use Rattle.assignment.specs.Assignment.{entry}
 use Rattle.circuit.specs.Circuit.{rowAt}
 use Rattle.circuit.specs.Places.{rowCount}
 use Rattle.circuit.specs.Wires.{wireCount}
 use Rattle.circuit.specs.declared.circuits.Circuit.{Circuit}
 use Rattle.encoding.specs.Bits.{bitOfBytes}
+use Rattle.field.specs.Field.{p}
+use Rattle.forms.proofs.exact.Runs.{Judged, and-given}
 use Rattle.forms.specs.Rows.{Satisfied}
 use Rattle.satisfaction.specs.Check.{afterRows, circuitCheck, same}
 use Rattle.refusal.proofs.Tests.{equal-iff, not-iff, past}
@@ -58,8 +61,13 @@ fails (Fails j) k e = ap (λ o. Fails (record { 0 = getD (outcomeValues o) 0 0 }
 pub record Passed (C : Circuit) (d a : List ℕ) : Type 0 where
   pub digest-length : length d ≡ 32
   pub assignment-length : length a ≡ 8 * wireCount C
+  pub below : (w : ℕ) → w < wireCount C → entry a w < p
   pub one : entry a 0 ≡ 1
   pub digest-wires : (k : ℕ) → k < 256 → entry a (1 + k) ≡ bitOfBytes d k
+
+-- .. so that the rows may judge the entries
+pub judged-entries : {C : Circuit} {d a : List ℕ} → Passed C d a → Judged (entry a)
+judged-entries {C} {d} {a} h = record { one = h .one; below = below-all (wireCount C) a (h .assignment-length) (h .below) .each }
 
 -- .. and all rows are satisfied
 pub record Accepts (C : Circuit) (d a : List ℕ) : Type 0 where
@@ -70,25 +78,28 @@ module _ (C : Circuit) (d a : List ℕ) where
   abbrev rowsVerdict : Verdict
   rowsVerdict = lowest (entry a) (rowAt C) 0 (rowCount C)
 
-  -- an answer that is none of the refusals 5 to 8
-  answer-of-rows : (z : Outcome) → ((m : ℕ) → 5 ≤ m → m ≤ 8 → m ≡ outcomeNumber z → ⊥)
+  -- an answer that is none of the refusals 5 to 8 and 20
+  answer-of-rows : (z : Outcome) → ((m : ℕ) → 5 ≤ m → m ≤ 8 → m ≡ outcomeNumber z → ⊥) → (20 ≡ outcomeNumber z → ⊥)
       → (circuitCheck C d a ≡ z) ↔ (Passed C d a × (afterRows rowsVerdict ≡ z))
   unfolding circuitCheck
-  answer-of-rows z other =
+  answer-of-rows z other not-20 =
       Iff·trans
       (past _ (Refused DigestNot32) _ z (equal-iff (length d) 32) (other 5 (lit≤ tt) (lit≤ tt))
       (past _ (Refused WrongLength) _ z (equal-iff (length a) (8 * wireCount C)) (other 6 (lit≤ tt) (lit≤ tt))
-      (past _ (Refused WireZero) _ z (equal-iff (entry a 0) 1) (other 7 (lit≤ tt) (lit≤ tt))
+      (Iff·trans (limit-past _ _ (wireCount C) a _ z (λ w e. not-20 (ap outcomeNumber e))) (and-given Iff·rfl (λ below.
+      past _ (Refused WireZero) _ z (equal-iff (entry a 0) 1) (other 7 (lit≤ tt) (lit≤ tt))
       (past _ (Refused DigestWire) _ z (not-iff _ (same-iff 256 (λ k. entry a (1 + k)) (bitOfBytes d))) (other 8 (lit≤ tt) (lit≤ tt))
-      Iff·rfl)))) (
-        λ (digest, (length, (one, (wires, rows)))).
-            (record { digest-length = digest; assignment-length = length; one = one; digest-wires = wires }, rows),
-        λ (h, rows). (h .digest-length, (h .assignment-length, (h .one, (h .digest-wires, rows)))),
+      Iff·rfl)))))) (
+        λ (digest, (length, (below, (one, (wires, rows))))). (
+          record { digest-length = digest; assignment-length = length; below = below; one = one; digest-wires = wires },
+          rows,
+        ),
+        λ (h, rows). (h .digest-length, (h .assignment-length, (h .below, (h .one, (h .digest-wires, rows))))),
       )
 
   pub accepted-iff : (circuitCheck C d a ≡ Done) ↔ Accepts C d a
   accepted-iff =
-      Iff·trans (answer-of-rows Done (λ m l h e. omega arith)) (
+      Iff·trans (answer-of-rows Done (λ m l h e. omega arith) (λ e. omega arith)) (
         λ (h, rows).
             record {
               passed = h;
@@ -106,4 +117,4 @@ module _ (C : Circuit) (d a : List ℕ) where
   unsatisfied-lowest k e =
       subst (λ m. LowestFailing (entry a) (rowAt C) 0 m (k .0)) (zero-add (rowCount C))
       (lowest-failing (entry a) (rowAt C) 0 (rowCount C) k
-      (fails rowsVerdict k (answer-of-rows (Refused (Unsatisfied k)) (λ m l h e. omega arith) .0 e .1)))
+      (fails rowsVerdict k (answer-of-rows (Refused (Unsatisfied k)) (λ m l h e. omega arith) (λ e. omega arith) .0 e .1)))

@@ -9,11 +9,12 @@ use borrow.Author.Count.{below-more, below-none}
 use lib.ListN.{length, take}
 use lib.Seq.{take-suc}
 use Rattle.assignment.specs.Assignment.{entry}
+use Rattle.circuit.specs.declared.message.MessageSpan.{MessageSpan}
 use Rattle.encoding.proofs.Bits.{number-cong, number-lt}
 use Rattle.encoding.proofs.Sequence.{each-beside, each-grid}
 use Rattle.encoding.specs.Sequence.{beside, grid}
 use Rattle.forms.specs.WordWires.{wordWires}
-use Rattle.satisfaction.specs.Agrees.{Agrees, BitsOf, BitsOfWords}
+use Rattle.satisfaction.specs.Agrees.{Agrees, BitsOf, BitsOfWords, Padded}
 use Rattle.sm3.proofs.WordBits.{bit-number}
 use Rattle.sm3.proofs.expansion.FirstWords.{W, W-block}
 use Rattle.sm3.specs.Sm3.{blockWord, expansion, extended}
@@ -73,6 +74,10 @@ bits-agree {w} {x} {bytes} h =
       entries = λ i l. sym (ap (bit i) (h .value) ∙ bit-number (λ i. entry bytes (w + i)) i (h .bits) l);
     }
 
+-- the same words, by another name of their first wire
+pub words-at : {w v n : ℕ} {words bytes : List ℕ} → w ≡ v → BitsOfWords w n words bytes → BitsOfWords v n words bytes
+words-at {w} {v} {n} {words} {bytes} e h = subst (λ u. BitsOfWords u n words bytes) e h
+
 -- the bits of n words
 pub are-bits : {w n : ℕ} {words bytes : List ℕ} → BitsOfWords w n words bytes → (k : ℕ) → k < 32 * n → entry bytes (w + k) < 2
 are-bits {w} {n} {words} {bytes} h k l =
@@ -90,3 +95,7 @@ first-words {w} {words} {bytes} (suc n) few room h =
     (first-words n (omega arith) (omega arith) (record { each = λ j l. h .each j (omega arith) }))
     (h .each n (omega arith) .value ∙ number-cong 32 _ _ (λ i l. ap (entry bytes) (add-assoc w (32 * n) i))
     ∙ sym (W-block (λ k. entry bytes (w + k)) n (omega arith)))
+
+-- the padding of the same message, by another name
+pub padded-at : {m m′ : MessageSpan} {i : ℕ} {bytes : List ℕ} → m ≡ m′ → Padded m i bytes → Padded m′ i bytes
+padded-at {m} {m′} {i} {bytes} e h = subst (λ s. Padded s i bytes) e h

@@ -1,9 +1,10 @@
 -- The lowest row that is not satisfied is the lowest place at which the test of a row fails, so the laws of such a place are laws
 -- of that row; and a verdict tells whether there is one.
 use mathlib.Core.Bool.{false, true, true≢false}
-use mathlib.Core.Logic.{_↔_}
+use mathlib.Core.Logic.{_↔_, by-cases}
 use mathlib.Core.Path.{_≡_, _∙_, ap, ap₂, subst, sym}
 use Prim.Native.Nat.{ℕ, suc, _+_, _-_, _<_, _≤_}
+use native.Mathlib.Decide.{decLt}
 use native.Mathlib.Omega.{arith}
 use Rattle.encoding.proofs.Lowest as failing
 use Rattle.forms.specs.Rows.{Row, Satisfied, holds}
@@ -35,17 +36,32 @@ module _ (a : ℕ → ℕ) (rows : ℕ → Row) where
       let same : i ≡ j .0 = omega (arith, ap named e) in
       subst (LowestFailing a rows k (k + m)) same low)
 
+  -- of no row none fails
+  pub lowest-none : (k : ℕ) → lowest a rows k 0 ≡ AllSatisfied
+  lowest-none k = lowest-all k 0 .1 (λ i l h. absurd (omega arith))
+
+  -- where m rows from k on hold and n after them, all do
+  pub lowest-then : (k m n : ℕ) → lowest a rows k m ≡ AllSatisfied → lowest a rows (k + m) n ≡ AllSatisfied
+      → lowest a rows k (m + n) ≡ AllSatisfied
+  lowest-then k m n first rest =
+      lowest-all k (m + n) .1
+      (λ i l h.
+      by-cases (decLt i (k + m)) (λ before. lowest-all k m .0 first i l before)
+      (λ past. lowest-all (k + m) n .0 rest i (omega arith) (omega arith)))
+
   -- the same rows, by other names of their first and of their end
   pub lowest-same : {n m k j : ℕ} → n ≡ m → k ≡ j → lowest a rows k (n - k) ≡ lowest a rows j (m - j)
   lowest-same e f = ap₂ (λ n k. lowest a rows k (n - k)) e f
 
   -- of the rows from k on and below n, m are judged: where they hold, the lowest is one after them; else it is among them
   module _ (n k m : ℕ) (l : k + m ≤ n) where
+    pub lowest-past : lowest a rows k m ≡ AllSatisfied → lowest a rows k (n - k) ≡ lowest a rows (k + m) (n - (k + m))
+    unfolding lowest
+    lowest-past e = failing.lowest-past _ _ AllSatisfied n k m l (failing.none-all _ _ AllSatisfied apart k m e)
+
     pub lowest-after : (v : Verdict) → v ≡ lowest a rows k m → isFailing v ≡ false
         → lowest a rows k (n - k) ≡ lowest a rows (k + m) (n - (k + m))
-    unfolding lowest
-    lowest-after AllSatisfied e h =
-        failing.lowest-past _ _ AllSatisfied n k m l (failing.none-all _ _ AllSatisfied apart k m (sym e))
+    lowest-after AllSatisfied e h = lowest-past (sym e)
     lowest-after (Fails j) e h = absurd (true≢false h)
 
     pub lowest-among : (v : Verdict) → v ≡ lowest a rows k m → isFailing v ≡ true → lowest a rows k (n - k) ≡ v

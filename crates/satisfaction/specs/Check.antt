@@ -1,10 +1,12 @@
--- The answer of the check of a circuit's assignment against a digest (document 01, "Refusals in checking order").
+-- The answer of the check of a circuit's assignment against a digest (document 01, "Refusals in checking order"; document 02,
+-- request 6).
 use mathlib.Core.Bool.{Bool, cond, not, true, _&&_}
 use mathlib.Core.List.{List}
 use Prim.Native.Nat.{ℕ, zero, suc, _+_, _*_}
 use lib.Dec.{eqb}
 use lib.ListN.{length}
 use Rattle.assignment.specs.Assignment.{entry}
+use Rattle.assignment.specs.BelowPrime.{belowPrimeAnswer}
 use Rattle.circuit.specs.Circuit.{rowAt}
 use Rattle.circuit.specs.Places.{rowCount}
 use Rattle.circuit.specs.Wires.{wireCount}
@@ -34,9 +36,11 @@ circuitCheck c digest assignment =
     cond (not (eqb (length digest) 32)) (Refused DigestNot32)
     -- "6. An assignment of 8-byte entries handed over to be read is not exactly 8 × wires bytes."
     (cond (not (eqb (length assignment) (8 * wireCount c))) (Refused WrongLength)
+    -- document 02, request 6: "20, an entry of p or more (lowest wire returned), directly after 6 and so before 7"
+    (belowPrimeAnswer (wireCount c) assignment
     -- "7. Wire 0 does not read as 1."
     (cond (not (eqb (entry assignment 0) 1)) (Refused WireZero)
     -- "8. A digest wire does not read as its bit of the digest."
     (cond (not (same 256 (λ k. entry assignment (1 + k)) (bitOfBytes digest))) (Refused DigestWire)
     -- "9. A row is not satisfied; the lowest row that is not satisfied is returned with it."
-    (afterRows (lowest (entry assignment) (rowAt c) 0 (rowCount c))))))
+    (afterRows (lowest (entry assignment) (rowAt c) 0 (rowCount c)))))))

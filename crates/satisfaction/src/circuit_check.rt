@@ -8,6 +8,7 @@ ghost use Rattle.encoding.specs.Bits.{bitOfBytes};
 ghost use Rattle.satisfaction.specs.Check.{afterRows, circuitCheck, same};
 use crate::blocks_check::lowest_unsatisfied;
 use crate::rows_check::Verdict;
+use assignment::bounded::below_prime;
 use assignment::entry::read;
 use circuit::circuits::Circuit;
 use circuit::wire::wire_count;
@@ -16,7 +17,7 @@ use refusal::numbers::WireNumber;
 use refusal::outcome::Outcome;
 use refusal::outcome::Refusal;
 
-// Whether each digest wire reads as its bit of the digest.
+// Whether each digest wire is its bit of the digest.
 fn digest_agrees(digest: &[u8], assignment: &[u8]) -> bool
     requires { ⌜ (length (now digest) ≡ 32) × (8 * 257 ≤ length (now assignment)) ⌝ }
     ensures { λ r. ⌜ r ≡ same 256 (λ (k : ℕ). entry (now (assignment .entry)) (1 + k)) (bitOfBytes (now (digest .entry))) ⌝ }
@@ -47,8 +48,13 @@ pub fn check_circuit(circuit: Circuit, digest: &[u8], assignment: &[u8]) -> Outc
     if digest.len() != 32 {
         return Outcome::Refused(Refusal::DigestNot32);
     }
-    if assignment.len() as u64 != 8 * wire_count(circuit) {
+    let wires = wire_count(circuit);
+    if assignment.len() as u64 != 8 * wires {
         return Outcome::Refused(Refusal::WrongLength);
+    }
+    let below = below_prime(assignment, wires);
+    if let Outcome::Refused(refusal) = below {
+        return Outcome::Refused(refusal);
     }
     if read(assignment, WireNumber(0)) != 1 {
         return Outcome::Refused(Refusal::WireZero);

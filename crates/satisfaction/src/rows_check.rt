@@ -3,6 +3,7 @@ ghost use mathlib.Core.Path.{_≡_};
 ghost use Prim.Native.Nat.{_-_, _*_, _<_, _≤_};
 ghost use lib.ListN.{length};
 ghost use Rattle.assignment.specs.Assignment.{entry};
+ghost use Rattle.assignment.specs.Bounded.{BelowPrime};
 ghost use Rattle.circuit.specs.Circuit.{rowAt};
 ghost use Rattle.circuit.specs.Places.{rowCount};
 ghost use Rattle.circuit.specs.Ranges.{Allowed};
@@ -35,7 +36,7 @@ pub fn lowest_between(
     to: RowNumber,
     assignment: &[u8],
 ) -> Verdict
-    requires { ⌜ Allowed circuit × (length (now assignment) ≡ 8 * wireCount circuit) × (from .0 < to .0) × (to .0 ≤ rowCount circuit) ⌝ }
+    requires { ⌜ Allowed circuit × (length (now assignment) ≡ 8 * wireCount circuit) × (from .0 < to .0) × (to .0 ≤ rowCount circuit) × BelowPrime (now assignment) ⌝ }
     ensures { λ r. ⌜ r ≡ lowest (entry (now (assignment .entry))) (rowAt circuit) (from .0) (to .0 - from .0) ⌝ }
 {
     let blocks = block_count(circuit);

@@ -2,32 +2,32 @@
 ghost use mathlib.Core.Path.{_≡_};
 ghost use Prim.Native.Nat.{_+_, _*_, _%_, _<_};
 ghost use lib.ListN.{getD};
-ghost use Rattle.encoding.specs.Bytes.{fromLeastFirst};
+ghost use Rattle.assignment.specs.Assignment.{entry};
 ghost use Rattle.field.specs.Field.{p};
 ghost use Rattle.satisfaction.specs.Lent.{Lent};
-use assignment::entry::raw;
+use assignment::entry::read;
 use field::P;
 use field::product;
 use refusal::numbers::WireNumber;
 
-// k times the number x. Nearly every entry of an honest assignment is 0 or 1, which needs no reduction; whether it is the one
-// or the other is not asked, since the processor could not foresee the answer.
+// k times the number x. Nearly every entry of an honest assignment is 0 or 1, whose product needs no reduction; whether it is the
+// one or the other is not asked, since the processor could not foresee the answer.
 fn times(k: u64, x: u64) -> u64
-    requires { ⌜ k < p ⌝ }
+    requires { ⌜ (k < p) × (x < p) ⌝ }
     ensures { λ r. ⌜ r ≡ (k * x) % p ⌝ }
 {
     if 1 < x {
-        return product(k, x % P);
+        return product(k, x);
     }
     k * x
 }
 
-// What term t of the buffer adds: its coefficient times what its wire reads as.
+// What term t of the buffer adds: its coefficient times the entry of its wire.
 pub fn term_value(assignment: &[u8], terms: &[u64], t: usize) -> u64
     requires { ⌜ Lent (t + 1) (now terms) (now assignment) ⌝ }
-    ensures { λ r. ⌜ r ≡ (getD (now (terms .entry)) (2 * t + 1) 0 * fromLeastFirst 8 (now (assignment .entry)) (8 * getD (now (terms .entry)) (2 * t) 0)) % p ⌝ }
+    ensures { λ r. ⌜ r ≡ (getD (now (terms .entry)) (2 * t + 1) 0 * entry (now (assignment .entry)) (getD (now (terms .entry)) (2 * t) 0)) % p ⌝ }
 {
-    let x = raw(assignment, WireNumber(terms[2 * t]));
+    let x = read(assignment, WireNumber(terms[2 * t]));
     times(terms[2 * t + 1], x)
 }
 

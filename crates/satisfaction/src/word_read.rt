@@ -3,28 +3,19 @@ ghost use mathlib.Core.Bool.{true};
 ghost use mathlib.Core.Path.{_≡_};
 ghost use Prim.Native.Nat.{_+_, _*_, _<_, _≤_};
 ghost use lib.ListN.{length};
-ghost use Rattle.satisfaction.specs.Agrees.{BitsOf, BitsOfState, BitsOfWords, IsWordRead, Stand};
+ghost use Rattle.satisfaction.specs.Agrees.{Bits, BitsOf, BitsOfState, BitsOfWords};
 ghost use Rattle.satisfaction.specs.declared.word_read.StateRead.the-variants.{Words};
 ghost use Rattle.sm3.specs.declared.state.State.{State};
-use assignment::entry::raw;
 use assignment::entry::read;
 use refusal::numbers::WireNumber;
 use sm3::state::State;
 
-// What 32 entries are, as they stand. In an honest assignment they are the numbers 0 and 1.
+// What 32 entries are. In an honest assignment they are bits.
 pub struct Standing {
     // The number that they write if they are bits.
     pub number: u64,
     // All of them put together by `or`, so that it is above 1 where one of them is.
     pub seen: u64,
-}
-
-// What 32 wires are.
-pub enum WordRead {
-    // The bits of this word.
-    Word(u32),
-    // Not all are bits.
-    NotBits,
 }
 
 // What 256 wires are.
@@ -35,69 +26,32 @@ pub enum StateRead {
     NotBits,
 }
 
-// The 32 entries from w on put together by `or`, as they stand: it is above 1 where one of them is.
-pub fn seen_from(assignment: &[u8], w: WireNumber) -> u64
-    requires { ⌜ 8 * (w .0 + 32) ≤ length (now assignment) ⌝ }
-    ensures { λ r. ⌜ (r < 2 → Stand (w .0) 32 (now (assignment .entry))) ⌝ }
-{
-    let mut seen: u64 = 0;
-    for i in 0..32 {
-        seen = seen | raw(assignment, WireNumber(w.0 + i));
-    }
-    seen
-}
-
-// The number that the 32 entries from w on write if they stand as 0 and 1.
+// The number that the 32 entries from w on write if they are bits.
 pub fn number_from(assignment: &[u8], w: WireNumber) -> u64
     requires { ⌜ 8 * (w .0 + 32) ≤ length (now assignment) ⌝ }
-    ensures { λ r. ⌜ (Stand (w .0) 32 (now (assignment .entry)) → BitsOf (w .0) 32 r (now (assignment .entry))) ⌝ }
+    ensures { λ r. ⌜ (Bits (w .0) 32 (now (assignment .entry)) → BitsOf (w .0) 32 r (now (assignment .entry))) ⌝ }
 {
     let mut number: u64 = 0;
     for i in 0..32 {
-        let n = raw(assignment, WireNumber(w.0 + i));
+        let n = read(assignment, WireNumber(w.0 + i));
         number = std::num::wrapping_add_u64(std::num::wrapping_add_u64(number, number), n);
     }
     number
 }
 
-// The 32 entries from w on as they stand. The callers test `seen`.
+// The 32 entries from w on, each read once for both. The callers test `seen`.
 pub fn read_standing(assignment: &[u8], w: WireNumber) -> Standing
     requires { ⌜ 8 * (w .0 + 32) ≤ length (now assignment) ⌝ }
     ensures { λ r. ⌜ (r .seen < 2 → BitsOf (w .0) 32 (r .number) (now (assignment .entry))) ⌝ }
 {
-    let number = number_from(assignment, w);
-    Standing {
-        number,
-        seen: seen_from(assignment, w),
-    }
-}
-
-// The word on the 32 wires from w on, whatever numbers the entries are.
-pub fn reduced_word(assignment: &[u8], w: WireNumber) -> WordRead
-    requires { ⌜ 8 * (w .0 + 32) ≤ length (now assignment) ⌝ }
-    ensures { λ r. ⌜ IsWordRead r (w .0) (now (assignment .entry)) ⌝ }
-{
-    let mut x: u32 = 0;
+    let mut number: u64 = 0;
+    let mut seen: u64 = 0;
     for i in 0..32 {
-        let b = read(assignment, WireNumber(w.0 + i));
-        if 1 < b {
-            return WordRead::NotBits;
-        }
-        x = x * 2 + b as u32;
+        let n = read(assignment, WireNumber(w.0 + i));
+        number = std::num::wrapping_add_u64(std::num::wrapping_add_u64(number, number), n);
+        seen = seen | n;
     }
-    WordRead::Word(x)
-}
-
-// The word on the 32 wires from w on.
-fn read_word(assignment: &[u8], w: WireNumber) -> WordRead
-    requires { ⌜ 8 * (w .0 + 32) ≤ length (now assignment) ⌝ }
-    ensures { λ r. ⌜ IsWordRead r (w .0) (now (assignment .entry)) ⌝ }
-{
-    let s = read_standing(assignment, w);
-    if s.seen < 2 {
-        return WordRead::Word(s.number as u32);
-    }
-    reduced_word(assignment, w)
+    Standing { number, seen }
 }
 
 // The n words on 32 wires each from w on, into the front of `words`, and whether all those wires are bits.
@@ -106,10 +60,11 @@ pub fn read_words(assignment: &[u8], w: WireNumber, words: &mut [u32], n: usize)
     ensures { λ r. ⌜ (r ≡ true → BitsOfWords (w .0) n (now (words .exit)) (now (assignment .entry))) ⌝ }
 {
     for j in 0..n {
-        let WordRead::Word(x) = read_word(assignment, WireNumber(w.0 + 32 * j as u64)) else {
+        let s = read_standing(assignment, WireNumber(w.0 + 32 * j as u64));
+        if 1 < s.seen {
             return false;
-        };
-        words[j] = x;
+        }
+        words[j] = s.number as u32;
     }
     true
 }

@@ -1,31 +1,46 @@
--- Where a block's wires are what its 512 bits and the words that it begins with give, all its rows past those of the bits hold, by the
--- block's theorem.
+-- Where a block's wires are what its 512 bits and the words that it begins with give, up to some word or round, its rows up to there hold,
+-- by the block's theorem. The rows of its bits hold where these are bits and the padding among them is the message's.
 use mathlib.Core.List.{List}
+use mathlib.Core.Logic.{by-cases}
 use mathlib.Core.Path.{_≡_, _∙_, ap, refl, subst, sym}
-use Prim.Native.Nat.{ℕ, _+_, _-_, _*_, _<_, _^_}
+use Prim.Native.Nat.{ℕ, _+_, _-_, _*_, _<_, _≤_, _^_}
+use native.Mathlib.Decide.{decLt}
 use native.Mathlib.Omega.{arith}
-use lib.Dec.{lit<}
-use Rattle.assignment.proofs.Entries.{entry-lt}
+use lib.Dec.{lit<, lit≤}
 use Rattle.assignment.specs.Assignment.{entry}
-use Rattle.block.proofs.exact.Block.{block-run, blockForms}
-use Rattle.block.proofs.exact.States.{carries-eight}
-use Rattle.block.specs.Steps.{blockRows, computedRows}
-use Rattle.block.specs.Wires.{eightFrom}
+use Rattle.assignment.specs.Bounded.{BelowPrime}
+use Rattle.block.proofs.exact.Block.{block-run, blockForms, expanded-hold, rounds-hold}
+use Rattle.block.proofs.exact.BlockRounds.{rowsBeforeRound-le}
+use Rattle.block.proofs.exact.States.{CarriesState, carries-eight}
+use Rattle.block.specs.BlockWires.{computedWires, expansionWires, roundWires, stateWires}
+use Rattle.block.specs.Steps.{blockRows, computedRows, rowsBeforeRound}
+use Rattle.block.specs.Wires.{eightFrom, expansionAt, expansionWidth, pairsAt, resultAt, roundWidth, roundsAt}
+use Rattle.block.specs.declared.step.Step.the-variants.{Message}
 use Rattle.circuit.proofs.exact.Frame.{block-row}
-use Rattle.circuit.specs.Circuit.{begins, beginsAt, formAt, rowAt}
-use Rattle.circuit.specs.Circuits.{blockCount, messageOf}
+use Rattle.circuit.proofs.exact.Messages.{message-run}
+use Rattle.circuit.specs.Circuit.{begins, beginsAt, formOf, messageBit, rowAt}
+use Rattle.circuit.specs.Circuits.{blockCount, contentForm, messageOf}
 use Rattle.circuit.specs.Places.{stateRows}
 use Rattle.circuit.specs.Wires.{blockFirst}
+use Rattle.circuit.specs.declared.circuits.Circuit.the-variants.{Axles, Record}
 use Rattle.circuit.specs.declared.circuits.Circuit.{Circuit}
-use Rattle.encoding.proofs.Sequence.{beside-then}
-use Rattle.forms.proofs.exact.Runs.{Holds, Judged}
+use Rattle.circuit.specs.declared.message.MessageSpan.{MessageSpan}
+use Rattle.encoding.proofs.Sequence.{beside-first, beside-then}
+use Rattle.encoding.specs.Sequence.{beside, grid}
+use Rattle.forms.proofs.exact.Runs.{Agree, Holds, Judged}
+use Rattle.forms.proofs.exact.Words.{bit-row}
 use Rattle.forms.specs.Rows.{Satisfied, rowOf}
+use Rattle.forms.specs.WordWires.{wordWires}
+use Rattle.forms.specs.declared.form.Form.{Form}
+use Rattle.satisfaction.proofs.Agreeing.{agrees-rows, agrees-then, bits-agree, bits-lt}
 use Rattle.satisfaction.proofs.Lowest.{lowest-all}
-use Rattle.satisfaction.specs.Agrees.{Computed}
+use Rattle.satisfaction.specs.Agrees.{Agrees, BitsOfState, Padded}
 use Rattle.satisfaction.specs.Lowest.{lowest}
 use Rattle.satisfaction.specs.declared.rows_check.Verdict.the-variants.{AllSatisfied}
 use Rattle.sm3.proofs.Bounds.{Words}
-use Rattle.sm3.specs.Sm3.{wordOf}
+use Rattle.sm3.proofs.message.MessageBits.{message-content, message-padding}
+use Rattle.sm3.specs.Message.{blockBits, message}
+use Rattle.sm3.specs.Sm3.{block, expansion, pairWord, rounds, wordOf, xorState}
 use Rattle.sm3.specs.declared.state.State.{State}
 
 state-words : (s : State) → ((k : ℕ) → k < 8 → wordOf s k < 2 ^ 32) → Words s
@@ -42,36 +57,97 @@ state-words s h =
       h = h 7 (lit< tt);
     }
 
-module _ (bytes : List ℕ) (one : entry bytes 0 ≡ 1) where
+-- a wire of the content that is a bit satisfies its row
+content-holds : (a : ℕ → ℕ) → Judged a → (C : Circuit) (w : ℕ) → a w < 2 → Satisfied a (rowOf (contentForm C (record { 0 = w })))
+content-holds a J (Record n) w bit = bit-row a J w .1 bit
+content-holds a J (Axles lower upper) w bit = bit-row a J w .1 bit
+
+module _ (bytes : List ℕ) (one : entry bytes 0 ≡ 1) (below : BelowPrime bytes) (C : Circuit) (i : ℕ) (l : i < blockCount C) where
   judged : Judged (entry bytes)
-  judged = record { one = one; below = entry-lt bytes }
+  judged = record { one = one; below = below .each }
 
-  forms-hold : (F b : ℕ) → Computed bytes F b → Holds (entry bytes) computedRows (blockForms F (eightFrom b))
-  forms-hold F b c =
-      block-run (entry bytes) judged F (eightFrom b) (c .begin)
-      (carries-eight (entry bytes) judged b (c .begin) (state-words (c .begin) (c .words)) (c .begun .entries))
-      (λ k. entry bytes (F + k))
-      (c .bits)
-      (λ k l. refl)
-      .1
-      (c .wires .entries)
+  abbrev F : ℕ
+  F = blockFirst i
 
-  -- the rows of block i past those of its bits
-  rows-hold : (C : Circuit) (i : ℕ) → i < blockCount C → Computed bytes (blockFirst i) (beginsAt (messageOf C i) i) → (k : ℕ) → k < computedRows
-      → Satisfied (entry bytes) (rowAt C (stateRows + blockRows * i + 512 + k))
-  unfolding rowAt begins
-  rows-hold C i l c k h =
-      let place : stateRows + blockRows * i + 512 + k ≡ 256 + (blockRows * i + (512 + k)) = omega arith in
-      let form : formAt C (stateRows + blockRows * i + 512 + k) ≡ blockForms (blockFirst i) (begins (messageOf C i) i) k =
-      ap (formAt C) place ∙ block-row C i (512 + k) l (omega arith) ∙ beside-then 512 _ _ k in
-      subst (λ f. Satisfied (entry bytes) (rowOf f)) (sym form) (forms-hold (blockFirst i) (beginsAt (messageOf C i) i) c k h)
+  abbrev first : ℕ
+  first = stateRows + blockRows * i
 
-  -- .. so that none of them fails
-  pub none-fails : (C : Circuit) (i : ℕ) → i < blockCount C → Computed bytes (blockFirst i) (beginsAt (messageOf C i) i)
-      → lowest (entry bytes) (rowAt C) (stateRows + blockRows * i + 512) computedRows ≡ AllSatisfied
-  none-fails C i l c =
-      let k : ℕ = stateRows + blockRows * i + 512 in
-      lowest-all (entry bytes) (rowAt C) k computedRows .1
-      (λ j h m.
-      let row : k + (j - k) ≡ j = omega arith in
-      subst (λ r. Satisfied (entry bytes) (rowAt C r)) row (rows-hold C i l c (j - k) (omega arith)))
+  -- the n rows of the block from its row m on have the forms f, and these hold
+  rows-passed : (m n : ℕ) (f : ℕ → Form) → m + n ≤ blockRows
+      → ((k : ℕ) → k < n → beside 512 (grid 32 (formOf C i Message)) (blockForms F (begins (messageOf C i) i)) (m + k) ≡ f k)
+      → Holds (entry bytes) n f → lowest (entry bytes) (rowAt C) (first + m) n ≡ AllSatisfied
+  unfolding rowAt
+  rows-passed m n f room forms holds =
+      lowest-all (entry bytes) (rowAt C) (first + m) n .1
+      (λ j h b.
+      let k : ℕ = j - (first + m) in
+      let row : 256 + (blockRows * i + (m + k)) ≡ j = omega arith in
+      subst (λ r. Satisfied (entry bytes) (rowAt C r)) row
+      (subst (λ f. Satisfied (entry bytes) (rowOf f)) (sym (block-row C i (m + k) l (omega arith) ∙ forms k (omega arith))) (holds k (omega arith))))
+
+  module _ (bits : (k : ℕ) → k < 512 → entry bytes (F + k) < 2) where
+    -- the bits of the message, as they stand on the block's wires
+    abbrev content : ℕ → ℕ
+    content k = entry bytes (F + (k - messageBit (messageOf C i) i 0))
+
+    content-at : (k : ℕ) → entry bytes (F + k) ≡ content (messageBit (messageOf C i) i k)
+    content-at k =
+        let bit : F + k ≡ F + (messageBit (messageOf C i) i k - messageBit (messageOf C i) i 0) = omega arith in
+        ap (entry bytes) bit
+
+    pub message-passed : Padded (messageOf C i) i bytes → lowest (entry bytes) (rowAt C) first 512 ≡ AllSatisfied
+    unfolding blockBits
+    message-passed padded =
+        let m : MessageSpan = messageOf C i in
+        let none : first + 0 ≡ first = omega arith in
+        subst (λ k. lowest (entry bytes) (rowAt C) k 512 ≡ AllSatisfied) none
+        (rows-passed 0 512 (grid 32 (formOf C i Message)) (lit≤ tt)
+        (λ k h. let place : 0 + k ≡ k = omega arith in ap (beside 512 _ _) place ∙ beside-first 512 _ _ k h)
+        (message-run (entry bytes) judged C i content
+        (λ k h in-content. (λ holds. content-at k, λ e. content-holds (entry bytes) judged C (F + k) (bits k h))) .1
+        (λ k h.
+        by-cases (decLt (messageBit m i k) (m .bits)) (λ in-content. content-at k ∙ sym (message-content (m .bits) content _ in-content))
+        (λ past. padded .each k h (omega arith) ∙ message-padding (m .bits) (λ j. 0) content _ (omega arith)))))
+
+    module _ (v : State) (begun : BitsOfState (beginsAt (messageOf C i) i) v bytes) where
+      abbrev words : List ℕ
+      words = expansion (λ k. entry bytes (F + k)) 68
+
+      carried : CarriesState (entry bytes) (begins (messageOf C i) i) v
+      unfolding begins stateWires
+      carried =
+          carries-eight (entry bytes) judged (beginsAt (messageOf C i) i) v (state-words v (λ k h. bits-lt (begun .each k h)))
+          (agrees-rows 8 (λ k. wordWires (wordOf v k)) (λ k h. bits-agree (begun .each k h)) .entries)
+
+      -- the first n rows past those of the bits
+      computed-passed : (n : ℕ) → n ≤ computedRows → Holds (entry bytes) n (blockForms F (begins (messageOf C i) i))
+          → lowest (entry bytes) (rowAt C) (first + 512) n ≡ AllSatisfied
+      computed-passed n room = rows-passed 512 n _ (omega arith) (λ k h. beside-then 512 _ _ k)
+
+      -- those of the first c words of the expansion
+      pub words-passed : (c : ℕ) → c ≤ 52
+          → Agrees (F + expansionAt) (c * expansionWidth) (grid expansionWidth (λ j. expansionWires words (16 + j))) bytes
+          → lowest (entry bytes) (rowAt C) (first + 512) (192 * c) ≡ AllSatisfied
+      words-passed c few agrees =
+          computed-passed (192 * c) (omega arith)
+          (expanded-hold (entry bytes) judged F _ v carried _ bits (λ k h. refl) c few (agrees .entries))
+
+      module _ (expanded : Agrees (F + expansionAt) (52 * expansionWidth) (grid expansionWidth (λ j. expansionWires words (16 + j))) bytes)
+          (paired : Agrees (F + pairsAt) 2048 (grid 32 (λ j. wordWires (pairWord words j))) bytes) where
+        -- .. and those of the first c rounds
+        pub rounds-passed : (c : ℕ) → c ≤ 64 → Agrees (F + roundsAt) (c * roundWidth) (grid roundWidth (λ j. roundWires words j (rounds words v j))) bytes
+            → lowest (entry bytes) (rowAt C) (first + 512) (9984 + 2048 + rowsBeforeRound c) ≡ AllSatisfied
+        rounds-passed c few agrees =
+            computed-passed (9984 + 2048 + rowsBeforeRound c) (omega (arith, rowsBeforeRound-le c few))
+            (rounds-hold (entry bytes) judged F _ v carried _ bits (λ k h. refl) (expanded .entries) (paired .entries) c few (agrees .entries))
+
+        -- .. and those of the result: all
+        pub block-passed : Agrees (F + roundsAt) (64 * roundWidth) (grid roundWidth (λ j. roundWires words j (rounds words v j))) bytes
+            → Agrees (F + resultAt) 256 (stateWires (xorState (rounds words v 64) v)) bytes
+            → lowest (entry bytes) (rowAt C) (first + 512) computedRows ≡ AllSatisfied
+        unfolding block computedWires
+        block-passed rounded result =
+            computed-passed computedRows (lit≤ tt)
+            (block-run (entry bytes) judged F _ v carried _ bits (λ k h. refl) .1
+            (agrees-then (F + pairsAt) (omega arith) expanded
+            (agrees-then (F + roundsAt) (omega arith) paired (agrees-then (F + resultAt) (omega arith) rounded result)) .entries))

@@ -1,4 +1,5 @@
--- The check's answer has room in one number: a row that it names is below the count, and no circuit that is allowed has that many rows.
+-- The check's answer has room in one number: a wire or a row that it names is below the count, and no circuit that is allowed has that
+-- many.
 use mathlib.Core.Bool.{not}
 use mathlib.Core.List.{List}
 use mathlib.Core.Path.{refl}
@@ -6,8 +7,9 @@ use Prim.Native.Nat.{ℕ, _+_, _*_}
 use native.Mathlib.Omega.{arith}
 use lib.Dec.{eqb}
 use lib.ListN.{length}
+use Rattle.assignment.proofs.EntriesBelow.{limit-small}
 use Rattle.assignment.specs.Assignment.{entry}
-use Rattle.circuit.proofs.place.PlaceRange.{most-rows}
+use Rattle.circuit.proofs.place.PlaceRange.{most-rows, most-wires}
 use Rattle.circuit.specs.Circuit.{rowAt}
 use Rattle.circuit.specs.Places.{rowCount}
 use Rattle.circuit.specs.Ranges.{Allowed}
@@ -33,7 +35,8 @@ check-small C d a allowed =
     (λ _.
     tested Small (not (eqb (length a) (8 * wireCount C))) (bare refl)
     (λ _.
-    tested Small (not (eqb (entry a 0) 1)) (bare refl)
+    limit-small _ _ (wireCount C) a _ (λ w l. record { room = omega (arith, l, most-wires C allowed) })
+    (tested Small (not (eqb (entry a 0) 1)) (bare refl)
     (λ _.
     tested Small (not (same 256 (λ k. entry a (1 + k)) (bitOfBytes d))) (bare refl)
-    (λ _. rows-small C (entry a) allowed))))
+    (λ _. rows-small C (entry a) allowed)))))

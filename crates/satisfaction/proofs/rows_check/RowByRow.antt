@@ -7,6 +7,7 @@ use native.Mathlib.Omega.{arith}
 use lib.Dec.{eqb}
 use lib.ListN.{length}
 use Rattle.assignment.specs.Assignment.{entry}
+use Rattle.assignment.specs.Bounded.{BelowPrime}
 use Rattle.block.specs.declared.place.Place.{Place}
 use Rattle.circuit.proofs.shape.Shape.{letters-within}
 use Rattle.circuit.specs.Circuit.{formAt, formOf, rowAt}
@@ -47,9 +48,9 @@ module _ (C : Circuit) (k : ℕ) (q : Place) (at : q ≡ placeAt (blockCount C) 
       subst (λ (q : Place). Filled (unsorted (formOf C (q .block) (q .step) (q .index) (q .line))) r before after) at filled
 
   -- no wire is past the last, and every coefficient is a residue
-  pub lent : Allowed C → k < rowCount C → length before ≡ termRoom → (bytes : List ℕ) → length bytes ≡ 8 * wireCount C
+  pub lent : Allowed C → k < rowCount C → length before ≡ termRoom → (bytes : List ℕ) → length bytes ≡ 8 * wireCount C → BelowPrime bytes
       → Lent (r .a + r .b + r .c) after bytes
-  lent allowed below room bytes size =
+  lent allowed below room bytes size entries =
       let row = unsorted (formAt C k) in
       let fits : 2 * (r .a + r .b + r .c) ≤ length before = omega (arith, held .few) in
       let inside =
@@ -60,6 +61,7 @@ module _ (C : Circuit) (k : ℕ) (q : Place) (at : q ≡ placeAt (blockCount C) 
         room = omega (arith, length-written (held .written));
         wires = λ t h. omega (arith, inside t (omega arith) .0);
         coefficients = λ t h. inside t (omega arith) .1;
+        entries = entries;
       }
 
   -- what the values of its parts tell is told of the row

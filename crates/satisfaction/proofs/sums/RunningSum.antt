@@ -1,5 +1,5 @@
 -- The weighted sum of a part of a row, term by term. A buffer holds two numbers a term; term t of it adds its coefficient times
--- what its wire reads as, and a sum that is kept as a residue comes to the same modulo p. Where the buffer begins with the terms
+-- the entry of its wire, and a sum that is kept as a residue comes to the same modulo p. Where the buffer begins with the terms
 -- of A, then B, then C, the three sums tell whether the row is satisfied.
 use mathlib.Core.List.{List, [], _∷_, _++_}
 use mathlib.Core.Path.{_≡_, _∙_, ap, ap₂, refl, sym}
@@ -11,8 +11,7 @@ use lib.ListN.{List·getD-append, drop, getD, length, length-append, take}
 use lib.Seq.{getD-append-add, take-all, take-suc}
 use Rattle.assignment.specs.Assignment.{entry}
 use Rattle.encoding.proofs.Written.{length-written}
-use Rattle.encoding.specs.Bytes.{fromLeastFirst}
-use Rattle.field.proofs.Congruence.{mul-mod, mul-mod-mod}
+use Rattle.field.proofs.Congruence.{mul-mod}
 use Rattle.field.specs.Field.{p}
 use Rattle.forms.proofs.exact.Values.{value-append}
 use Rattle.forms.proofs.terms.Flat.{flat-length, over}
@@ -90,12 +89,9 @@ module _ (bytes terms : List ℕ) (from to : ℕ) where
         ∙ ap (λ u. u .coefficient) here
 
     -- what it adds
-    added : (getD terms (2 * t + 1) 0 * fromLeastFirst 8 bytes (8 * getD terms (2 * t) 0)) % p
+    added : (getD terms (2 * t + 1) 0 * entry bytes (getD terms (2 * t) 0)) % p
         ≡ (term .coefficient * entry bytes (term .wire .0)) % p
-    unfolding entry
-    added =
-        ap₂ (λ c w. (c * fromLeastFirst 8 bytes (8 * w)) % p) coefficient-number wire-number
-        ∙ sym (mul-mod-mod (term .coefficient) (fromLeastFirst 8 bytes (8 * term .wire .0)) p)
+    added = ap₂ (λ c w. (c * entry bytes w) % p) coefficient-number wire-number
 
     one-more : value (entry bytes) (take (t + 1 - from) ts) ≡ value (entry bytes) (take (t - from) ts) + term .coefficient * entry bytes (term .wire .0)
     unfolding value
@@ -108,7 +104,7 @@ module _ (bytes terms : List ℕ) (from to : ℕ) where
 
   -- one term more
   running-next : (t s x : ℕ) → from ≤ t → t < to → Running t s
-      → x ≡ (getD terms (2 * t + 1) 0 * fromLeastFirst 8 bytes (8 * getD terms (2 * t) 0)) % p → Running (t + 1) ((s + x) % p)
+      → x ≡ (getD terms (2 * t + 1) 0 * entry bytes (getD terms (2 * t) 0)) % p → Running (t + 1) ((s + x) % p)
   running-next t s x l h running ex xs ts rest hx ht e =
       let adds = ex ∙ added xs ts rest hx ht e t l h in
       omega (arith, adds, running xs ts rest hx ht e, one-more xs ts rest hx ht e t l h)
@@ -134,6 +130,7 @@ fewer m l h =
       room = omega (arith, h .room);
       wires = λ t k. h .wires t (omega arith);
       coefficients = λ t k. h .coefficients t (omega arith);
+      entries = h .entries;
     }
 
 module _ (bytes terms : List ℕ) (n from to : ℕ) where
@@ -149,7 +146,7 @@ module _ (bytes terms : List ℕ) (n from to : ℕ) where
       }
 
   pub summed-next : (t s x r : ℕ) → Summed bytes terms n from to t s → t < to
-      → x ≡ (getD terms (2 * t + 1) 0 * fromLeastFirst 8 bytes (8 * getD terms (2 * t) 0)) % p → r ≡ (s + x) % p
+      → x ≡ (getD terms (2 * t + 1) 0 * entry bytes (getD terms (2 * t) 0)) % p → r ≡ (s + x) % p
       → Summed bytes terms n from to (t + 1) r
   summed-next t s x r h l ex er =
       record {

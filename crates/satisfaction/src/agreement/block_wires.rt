@@ -1,41 +1,95 @@
-// The wires of one block, held against the entries of an assignment.
-ghost use mathlib.Core.Bool.{true};
+// The wires of one block, held against the entries of an assignment: which of its rows need not be judged by their terms.
 ghost use mathlib.Core.Path.{_≡_};
-ghost use Prim.Native.Nat.{_+_, _*_, _≤_};
+ghost use Prim.Native.Nat.{_+_, _*_, _<_, _≤_};
 ghost use lib.ListN.{length};
-ghost use Rattle.block.specs.Wires.{wiresPerBlock};
+ghost use Rattle.assignment.specs.Assignment.{entry};
+ghost use Rattle.assignment.specs.Bounded.{BelowPrime};
+ghost use Rattle.block.specs.Steps.{blockRows, computedRows};
+ghost use Rattle.circuit.specs.Circuit.{rowAt};
+ghost use Rattle.circuit.specs.Circuits.{blockCount};
+ghost use Rattle.circuit.specs.Places.{stateRows};
+ghost use Rattle.circuit.specs.Ranges.{Allowed};
+ghost use Rattle.circuit.specs.Wires.{blockFirst, wireCount};
 ghost use Rattle.encoding.specs.Sequence.{tab};
-ghost use Rattle.satisfaction.specs.Agrees.{Computed};
+ghost use Rattle.satisfaction.specs.Agrees.{BitsOfWords};
+ghost use Rattle.satisfaction.specs.Lowest.{lowest};
+ghost use Rattle.satisfaction.specs.declared.rows_check.Verdict.the-variants.{AllSatisfied};
 ghost use Rattle.sm3.specs.Sm3.{rotatedConstant};
 use crate::agreement::expansion::expanded_words_agree;
 use crate::agreement::expansion::pairs_agree;
+use crate::agreement::message::padding_agrees;
 use crate::agreement::rounds::rounds_agree;
+use crate::agreement::wires::state_agrees;
 use crate::word_read::StateRead;
 use crate::word_read::read_state;
 use crate::word_read::read_words;
+use block::place::EXPANDED_ROWS;
+use block::place::EXPANSION_ROWS;
+use block::place::MESSAGE_ROWS;
+use block::place::W_PRIME_ROWS;
+use block::place::rows_before_round;
 use block::wire::EXPANSION;
 use block::wire::PAIRS;
+use block::wire::RESULT;
 use block::wire::ROUNDS;
+use circuit::circuits::Circuit;
+use circuit::circuits::message_of;
+use circuit::wire::beginning;
+use circuit::wire::block_first;
 use refusal::numbers::WireNumber;
+use sm3::state::xor_states;
 
-// Whether the block with this first wire, which begins with the words that stand from wire `begin` on, has bits there and on
-// its first 512 wires, and all its other wires are what those make them. Where it answers false, a row may fail.
-pub fn block_agrees(assignment: &[u8], first: WireNumber, begin: WireNumber, t: &[u32; 64]) -> bool
-    requires { ⌜ (now t ≡ tab 64 rotatedConstant) × (8 * (first .0 + wiresPerBlock) ≤ length (now assignment)) × (8 * (begin .0 + 256) ≤ length (now assignment)) ⌝ }
-    ensures { λ r. ⌜ (r ≡ true → Computed (now (assignment .entry)) (first .0) (begin .0)) ⌝ }
+// The rows of the result.
+const RESULT_ROWS: u64 = 8 * 32;
+
+// How many rows of block i past those of its bits hold, from the first on, because its wires are what its bits, the words x, and the
+// words that it begins with make them: up to a word or a round whose wires are not.
+fn computed_rows_passed(
+    circuit: Circuit,
+    i: u64,
+    assignment: &[u8],
+    x: &mut [u32; 68],
+    t: &[u32; 64],
+) -> u64
+    requires { ⌜ Allowed circuit × (length (now assignment) ≡ 8 * wireCount circuit) × (entry (now assignment) 0 ≡ 1) × BelowPrime (now assignment) × (now t ≡ tab 64 rotatedConstant) × (i < blockCount circuit) × (length (now x) ≡ 68) × BitsOfWords (blockFirst i) 16 (now x) (now assignment) ⌝ }
+    ensures { λ r. ⌜ (r ≤ computedRows) × (lowest (entry (now (assignment .entry))) (rowAt circuit) (stateRows + blockRows * i + 512) r ≡ AllSatisfied) ⌝ }
 {
+    let first = block_first(i);
+    let begin = beginning(message_of(circuit, i), i);
     let StateRead::Words(v) = read_state(assignment, begin) else {
-        return false;
+        return 0;
     };
+    let words = expanded_words_agree(assignment, WireNumber(first.0 + EXPANSION), x);
+    if words < 52 {
+        return EXPANDED_ROWS * words;
+    }
+    if !pairs_agree(assignment, WireNumber(first.0 + PAIRS), x) {
+        return EXPANSION_ROWS;
+    }
+    let rounds = rounds_agree(assignment, WireNumber(first.0 + ROUNDS), v, x, t);
+    let before_round = EXPANSION_ROWS + W_PRIME_ROWS + rows_before_round(rounds.count);
+    if rounds.count < 64 {
+        return before_round;
+    }
+    let result = xor_states(rounds.state, v);
+    if !state_agrees(assignment, WireNumber(first.0 + RESULT), result) {
+        return before_round;
+    }
+    before_round + RESULT_ROWS
+}
+
+// How many rows of block i hold, from the first on, because of what its wires are. The rows of its 512 bits hold where these are bits
+// and the padding among them is the message's.
+pub fn rows_passed(circuit: Circuit, i: u64, assignment: &[u8], t: &[u32; 64]) -> u64
+    requires { ⌜ Allowed circuit × (length (now assignment) ≡ 8 * wireCount circuit) × (entry (now assignment) 0 ≡ 1) × BelowPrime (now assignment) × (now t ≡ tab 64 rotatedConstant) × (i < blockCount circuit) ⌝ }
+    ensures { λ r. ⌜ (r ≤ blockRows) × (lowest (entry (now (assignment .entry))) (rowAt circuit) (stateRows + blockRows * i) r ≡ AllSatisfied) ⌝ }
+{
     let mut x = [0u32; 68];
-    if !read_words(assignment, first, &mut x, 16) {
-        return false;
+    if !read_words(assignment, block_first(i), &mut x, 16) {
+        return 0;
     }
-    if !expanded_words_agree(assignment, WireNumber(first.0 + EXPANSION), &mut x) {
-        return false;
+    if !padding_agrees(assignment, message_of(circuit, i), i) {
+        return 0;
     }
-    if !pairs_agree(assignment, WireNumber(first.0 + PAIRS), &x) {
-        return false;
-    }
-    rounds_agree(assignment, WireNumber(first.0 + ROUNDS), v, &x, t)
+    MESSAGE_ROWS + computed_rows_passed(circuit, i, assignment, &mut x, t)
 }

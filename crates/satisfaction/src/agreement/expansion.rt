@@ -29,19 +29,20 @@ fn values_agree(assignment: &[u8], w: WireNumber, r: ExpansionValues) -> bool
     word_agrees(assignment, WireNumber(w.0 + 64), r.word)
 }
 
-// Whether the 4,992 wires from w on are those of W16 to W67 with q and P1(q), from W0 to W15. The words go into `x`.
-pub fn expanded_words_agree(assignment: &[u8], w: WireNumber, x: &mut [u32; 68]) -> bool
+// How many of the words W16 to W67 have their wires, with those of q and P1(q), from w on, up to the first that has not. They come
+// from W0 to W15 and go into `x`.
+pub fn expanded_words_agree(assignment: &[u8], w: WireNumber, x: &mut [u32; 68]) -> u64
     requires { ⌜ (length (now x) ≡ 68) × (8 * (w .0 + 52 * expansionWidth) ≤ length (now assignment)) ⌝ }
-    ensures { λ r. ⌜ (r ≡ true → (bits : ℕ → ℕ) → take 16 (now (x .entry)) ≡ expansion bits 16 → (now (x .exit) ≡ expansion bits 68) × Agrees (w .0) (52 * expansionWidth) (grid expansionWidth (λ (j : ℕ). expansionWires (expansion bits 68) (16 + j))) (now (assignment .entry))) ⌝ }
+    ensures { λ r. ⌜ (r ≤ 52) × ((bits : ℕ → ℕ) → take 16 (now (x .entry)) ≡ expansion bits 16 → (r ≡ 52 → now (x .exit) ≡ expansion bits 68) × Agrees (w .0) (r * expansionWidth) (grid expansionWidth (λ (j : ℕ). expansionWires (expansion bits 68) (16 + j))) (now (assignment .entry))) ⌝ }
 {
     for j in 0..52 {
         let r = expansion_values(x, 16 + j);
         if !values_agree(assignment, WireNumber(w.0 + EXPANSION_WIDTH * j as u64), r) {
-            return false;
+            return j as u64;
         }
         x[16 + j] = r.word;
     }
-    true
+    52
 }
 
 // Whether the 2,048 wires from w on are those of W'0 to W'63.

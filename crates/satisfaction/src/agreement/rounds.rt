@@ -1,17 +1,16 @@
-// The wires of a block's 64 rounds and of its result, held against the entries of an assignment.
+// The wires of a block's 64 rounds, held against the entries of an assignment.
 ghost use mathlib.Core.Bool.{true};
 ghost use mathlib.Core.List.{List};
 ghost use mathlib.Core.Path.{_≡_};
 ghost use Prim.Native.Nat.{ℕ, _+_, _*_, _≤_};
 ghost use lib.ListN.{getD, length};
 ghost use Rattle.assignment.specs.Values.{IsRound};
-ghost use Rattle.block.specs.BlockWires.{roundWires, stateWires};
+ghost use Rattle.block.specs.BlockWires.{roundWires};
 ghost use Rattle.block.specs.Wires.{roundWidth};
-ghost use Rattle.encoding.specs.Sequence.{beside, grid, tab};
+ghost use Rattle.encoding.specs.Sequence.{grid, tab};
 ghost use Rattle.satisfaction.specs.Agrees.{Agrees};
-ghost use Rattle.sm3.specs.Sm3.{pairWord, rotatedConstant, rounds, xorState};
+ghost use Rattle.sm3.specs.Sm3.{pairWord, rotatedConstant, rounds};
 ghost use Rattle.sm3.specs.declared.state.State.{State};
-use crate::agreement::wires::state_agrees;
 use crate::agreement::wires::sum_agrees;
 use crate::agreement::wires::word_agrees;
 use assignment::values::RoundValues;
@@ -26,7 +25,6 @@ use block::wire::TT1;
 use block::wire::TT2;
 use refusal::numbers::WireNumber;
 use sm3::state::State;
-use sm3::state::xor_states;
 
 // Whether the 230 wires from w on are those of a round that computes r.
 fn round_agrees(assignment: &[u8], w: WireNumber, r: RoundValues) -> bool
@@ -57,28 +55,38 @@ fn round_agrees(assignment: &[u8], w: WireNumber, r: RoundValues) -> bool
     word_agrees(assignment, WireNumber(w.0 + P0), r.p0)
 }
 
-// Whether the 14,976 wires from w on are those of the 64 rounds, from the words v with the expansion x, and of the result.
+// What the wires of the rounds are.
+pub struct RoundsRead {
+    // How many rounds have their wires, up to the first that has not.
+    pub count: u64,
+    // The words A to H after these.
+    pub state: State,
+}
+
+// How many of the 64 rounds have their wires from w on, from the words v with the expansion x.
 pub fn rounds_agree(
     assignment: &[u8],
     w: WireNumber,
     v: State,
     x: &[u32; 68],
     t: &[u32; 64],
-) -> bool
-    requires { ⌜ (now t ≡ tab 64 rotatedConstant) × (8 * (w .0 + 64 * roundWidth + 256) ≤ length (now assignment)) ⌝ }
-    ensures { λ r. ⌜ (r ≡ true → Agrees (w .0) (64 * roundWidth + 256) (beside (64 * roundWidth) (grid roundWidth (λ (j : ℕ). roundWires (now (x .entry)) j (rounds (now (x .entry)) v j))) (stateWires (xorState (rounds (now (x .entry)) v 64) v))) (now (assignment .entry))) ⌝ }
+) -> RoundsRead
+    requires { ⌜ (now t ≡ tab 64 rotatedConstant) × (8 * (w .0 + 64 * roundWidth) ≤ length (now assignment)) ⌝ }
+    ensures { λ r. ⌜ (r .count ≤ 64) × (r .state ≡ rounds (now (x .entry)) v (r .count)) × Agrees (w .0) (r .count * roundWidth) (grid roundWidth (λ (j : ℕ). roundWires (now (x .entry)) j (rounds (now (x .entry)) v j))) (now (assignment .entry)) ⌝ }
 {
     let mut s = v;
     for j in 0..64 {
         let r = round_values(s, j, x, t);
         if !round_agrees(assignment, WireNumber(w.0 + ROUND_WIDTH * j as u64), r) {
-            return false;
+            return RoundsRead {
+                count: j as u64,
+                state: s,
+            };
         }
         s = after_round(s, r);
     }
-    state_agrees(
-        assignment,
-        WireNumber(w.0 + 64 * ROUND_WIDTH),
-        xor_states(s, v),
-    )
+    RoundsRead {
+        count: 64,
+        state: s,
+    }
 }

@@ -1,33 +1,17 @@
-// Entries held against values from a wire on: one bit, and the wires of a word, of a sum and of the words A to H.
+// Entries held against values from a wire on: the wires of a word, of a sum and of the words A to H.
 ghost use mathlib.Core.Bool.{true};
 ghost use mathlib.Core.Path.{_≡_};
-ghost use Prim.Native.Nat.{ℕ, _+_, _*_, _<_, _≤_};
+ghost use Prim.Native.Nat.{ℕ, _+_, _*_, _≤_};
 ghost use lib.ListN.{length};
-ghost use Rattle.assignment.specs.Assignment.{entry};
 ghost use Rattle.assignment.specs.Sum.{IsSum};
 ghost use Rattle.block.specs.BlockWires.{stateWires};
 ghost use Rattle.forms.specs.WordWires.{sumWires, wordWires};
 ghost use Rattle.satisfaction.specs.Agrees.{Agrees};
-use crate::word_read::WordRead;
 use crate::word_read::read_standing;
-use crate::word_read::reduced_word;
-use assignment::entry::raw;
+use assignment::entry::read;
 use assignment::sum::Sum;
-use field::reduce;
 use refusal::numbers::WireNumber;
 use sm3::state::State;
-
-// Whether a wire reads as this bit. An honest entry is the bit itself, and only another one is reduced.
-fn entry_agrees(assignment: &[u8], w: WireNumber, bit: u64) -> bool
-    requires { ⌜ (bit < 2) × (8 * w .0 + 8 ≤ length (now assignment)) ⌝ }
-    ensures { λ r. ⌜ (r ≡ true → entry (now (assignment .entry)) (w .0) ≡ bit) ⌝ }
-{
-    let number = raw(assignment, w);
-    if number == bit {
-        return true;
-    }
-    reduce(number) == bit
-}
 
 // Whether the 32 wires from w on are a word's.
 pub fn word_agrees(assignment: &[u8], w: WireNumber, x: u32) -> bool
@@ -35,13 +19,10 @@ pub fn word_agrees(assignment: &[u8], w: WireNumber, x: u32) -> bool
     ensures { λ r. ⌜ (r ≡ true → Agrees (w .0) 32 (wordWires x) (now (assignment .entry))) ⌝ }
 {
     let s = read_standing(assignment, w);
-    if s.seen < 2 {
-        return s.number == x as u64;
-    }
-    let WordRead::Word(y) = reduced_word(assignment, w) else {
+    if 1 < s.seen {
         return false;
-    };
-    y == x
+    }
+    s.number == x as u64
 }
 
 // Whether the 34 wires from w on are a sum's word and its 2 carries, the higher first.
@@ -52,10 +33,10 @@ pub fn sum_agrees(assignment: &[u8], w: WireNumber, sum: Sum) -> bool
     if !word_agrees(assignment, w, sum.word) {
         return false;
     }
-    if !entry_agrees(assignment, WireNumber(w.0 + 32), sum.carry / 2 % 2) {
+    if read(assignment, WireNumber(w.0 + 32)) != sum.carry / 2 % 2 {
         return false;
     }
-    entry_agrees(assignment, WireNumber(w.0 + 33), sum.carry % 2)
+    read(assignment, WireNumber(w.0 + 33)) == sum.carry % 2
 }
 
 // Whether the 256 wires from w on are those of the words A to H.

@@ -26,7 +26,7 @@ returns c =
     let made = asked .before in
     let begun = made .before .before in
     sym
-    (start-holds _ (begun .pre .2) (begun .args .circuit)
+    (start-holds _ (begun .pre .2) (begun .pre .3) (begun .args .circuit)
     (subst (λ (s : State). Agrees startFirst 256 (stateWires s) (begun .args .assignment .now)) (made .start-state .ensures)
     (asked .state-agrees .ensures (c .if1 .taken))))
 
@@ -34,7 +34,7 @@ lowest-between-requires : tie.Need-lowest-between-requires
 unfolding rowCount
 lowest-between-requires c κs =
     let p = c .before .before .before .before .pre in
-    (p .0, p .1, omega arith, omega arith)
+    (p .0, p .1, omega arith, omega arith, p .3)
 
 returns-2 : tie.Need-returns-2
 returns-2 c = c .lowest-between .ensures ∙ ap (lowest _ _ 0) (sub-zero stateRows)

@@ -108,7 +108,7 @@ loop-holds c =
     let turn = filled .before .before in
     let inv = turn .rows .inv in
     let start = turn .before .before .before .before in
-    let inside = lent _ _ _ (inv .at) _ _ _ (filled .place-terms .ensures) (start .pre .0) (omega (arith, inv .below, start .pre .3)) (inv .room) _ (start .pre .1) in
+    let inside = lent _ _ _ (inv .at) _ _ _ (filled .place-terms .ensures) (start .pre .0) (omega (arith, inv .below, start .pre .3)) (inv .room) _ (start .pre .1) (start .pre .4) in
     summed-none _ _ _ _ _ inside (omega arith) (omega arith)
 
 slice-aggregate-term-value :

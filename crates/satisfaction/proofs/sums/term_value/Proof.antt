@@ -1,6 +1,6 @@
--- The number on the term's wire is taken times its coefficient.
-use mathlib.Core.Path.{_∙_, ap}
-use Prim.Native.Nat.{ℕ, _+_, _*_, _%_}
+-- The entry of the term's wire is taken times its coefficient.
+use mathlib.Core.Path.{_∙_, ap, subst, sym}
+use Prim.Native.Nat.{ℕ, _+_, _*_, _%_, _<_}
 use native.Mathlib.Omega.{arith}
 use borrow.Author.Needs.{needs}
 use lib.ListN.{getD}
@@ -17,8 +17,8 @@ mul-times-2 c = search needs
 shared-slice-read-times : tie.Need-shared-slice-read-times
 shared-slice-read-times c = search needs
 
-raw-requires : tie.Need-raw-requires
-raw-requires c κs =
+read-requires : tie.Need-read-requires
+read-requires c κs =
     let start = c .before .before .before in
     start .pre .wires (start .args .t) (omega arith)
 
@@ -37,13 +37,13 @@ shared-slice-read-times-2 c = search needs
 times-requires : tie.Need-times-requires
 times-requires c κs =
     let start = c .before .before .before .before .before in
-    start .pre .coefficients (start .args .t) (omega arith)
+    (start .pre .coefficients (start .args .t) (omega arith), subst (λ (x : ℕ). x < p) (sym (c .before .read .ensures)) (start .pre .entries .each _))
 
 returns : tie.Need-returns
 returns c =
     let start = c .before .before .before .before .before .before in
     c .times .ensures
-    ∙ ap (λ (y : ℕ). (getD (start .args .terms .now) (2 * start .args .t + 1) 0 * y) % p) (c .before .before .raw .ensures)
+    ∙ ap (λ (y : ℕ). (getD (start .args .terms .now) (2 * start .args .t + 1) 0 * y) % p) (c .before .before .read .ensures)
 
 pub term-value-spec : {M : Type 1} → statement M
 term-value-spec =
@@ -52,7 +52,7 @@ term-value-spec =
     mul-times
     mul-times-2
     shared-slice-read-times
-    raw-requires
+    read-requires
     mul-times-3
     add-times
     mul-times-4

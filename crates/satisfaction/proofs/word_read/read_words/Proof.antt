@@ -1,4 +1,4 @@
--- Before turn j the first j words are read. A word that is not one of bits decides the answer.
+-- Before turn j the first j words are read. A word whose entries are not bits decides the answer.
 use mathlib.Core.Bool.{false≢true}
 use mathlib.Core.List.{List}
 use mathlib.Core.Path.{_≡_, _∙_, refl, subst, sym}
@@ -8,6 +8,7 @@ use borrow.Author.Count.{below-more, below-none}
 use borrow.Author.Needs.{needs}
 use lib.ListN.{getD, length, length-set, set}
 use lib.Seq.{getD-set-other, getD-set-same}
+use Rattle.satisfaction.proofs.Agreeing.{bits-lt}
 use Rattle.satisfaction.specs.Agrees.{BitsOf, BitsOfWords}
 use Rattle.satisfaction.proofs.word_read.read_words.Statement.{statement}
 use Rattle.satisfaction.proofs.word_read.read_words.Tie as tie
@@ -33,26 +34,23 @@ abbrev μ-loop : tie.MeasureT-loop
 loop-holds : tie.Need-loop-holds Inv-loop μ-loop
 loop-holds c = (omega arith, refl, record { each = below-none _ })
 
-mul-t10 : tie.Need-mul-t10 Inv-loop μ-loop
-mul-t10 c = search needs
+mul-t9 : tie.Need-mul-t9 Inv-loop μ-loop
+mul-t9 c = search needs
 
-add-t11 : tie.Need-add-t11 Inv-loop μ-loop
-add-t11 c = search needs
+add-t10 : tie.Need-add-t10 Inv-loop μ-loop
+add-t10 c = search needs
 
-read-word-requires : tie.Need-read-word-requires Inv-loop μ-loop
-read-word-requires c κs = search needs
-
-enum-known-x : tie.Need-enum-known-x Inv-loop μ-loop
-enum-known-x c = search needs
-
-enum-told : tie.Need-enum-told Inv-loop μ-loop
-enum-told c = search needs
+read-standing-requires : tie.Need-read-standing-requires Inv-loop μ-loop
+read-standing-requires c κs = search needs
 
 same-length : tie.Need-same-length Inv-loop μ-loop
 same-length c = c .before .before .before .before .before .loop .inv .1
 
 returns : tie.Need-returns Inv-loop μ-loop
 returns c = λ e. absurd (false≢true e)
+
+cast-words : tie.Need-cast-words Inv-loop μ-loop
+cast-words c = omega (arith, bits-lt (c .before .before .before .read-standing .ensures (omega (arith, c .before .if1 .left))))
 
 mul-words : tie.Need-mul-words Inv-loop μ-loop
 mul-words c = search needs
@@ -72,7 +70,7 @@ loop-again c =
     let l = read .before .before .before in (
       omega arith,
       length-set (l .loop .words) (l .loop .j) _ ∙ l .loop .inv .1,
-      one-more (omega (arith, l .loop .inv .1)) (l .loop .inv .2) (read .read-word .ensures .word _ (c .before .x .given .1)),
+      one-more (omega (arith, l .loop .inv .1)) (l .loop .inv .2) (read .read-standing .ensures (omega (arith, c .before .if1 .left))),
     )
 
 same-length-2 : tie.Need-same-length-2 Inv-loop μ-loop
@@ -90,13 +88,12 @@ read-words-spec =
     Inv-loop
     μ-loop
     loop-holds
-    mul-t10
-    add-t11
-    read-word-requires
-    enum-known-x
-    enum-told
+    mul-t9
+    add-t10
+    read-standing-requires
     same-length
     returns
+    cast-words
     mul-words
     slice-write-words
     add-j

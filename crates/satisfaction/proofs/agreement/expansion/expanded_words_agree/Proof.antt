@@ -1,5 +1,4 @@
 -- Before turn j the array has the words before W(16+j), and their wires agree; what a turn computes is of the whole expansion.
-use mathlib.Core.Bool.{false≢true}
 use mathlib.Core.Path.{_≡_, _∙_, sym}
 use Prim.Native.Nat.{ℕ, _+_, _-_, _*_, _<_, _≤_}
 use native.Mathlib.Omega.{arith}
@@ -45,7 +44,14 @@ values-agree-requires : tie.Need-values-agree-requires Inv-loop μ-loop
 values-agree-requires c κs = search needs
 
 returns : tie.Need-returns Inv-loop μ-loop
-returns c = λ e. absurd (false≢true e)
+returns c =
+    let l = c .before .before .before .before .before .before .loop in (
+      omega arith,
+      λ bits h. (
+        λ all. absurd (omega arith),
+        agrees-rows (l .j) (λ j. expansionWires (expansion bits 68) (16 + j)) (l .inv .2 bits h .1),
+      ),
+    )
 
 add-x : tie.Need-add-x Inv-loop μ-loop
 add-x c = search needs
@@ -84,11 +90,13 @@ loop-again c =
 returns-2 : tie.Need-returns-2 Inv-loop μ-loop
 returns-2 c =
     let l = c .before .loop in
-    let all : l .j ≡ 52 = omega arith in
-    λ e bits h.
-    let known = l .inv .2 bits h in (
-      sym (take-all 68 (l .x) (omega arith)) ∙ (rw all at (known .0)),
-      agrees-rows 52 (λ j. expansionWires (expansion bits 68) (16 + j)) (λ j b. known .1 j (omega arith)),
+    let all : l .j ≡ 52 = omega arith in (
+      omega arith,
+      λ bits h.
+          let known = l .inv .2 bits h in (
+            λ e. sym (take-all 68 (l .x) (omega arith)) ∙ (rw all at (known .0)),
+            agrees-rows 52 (λ j. expansionWires (expansion bits 68) (16 + j)) (λ j b. known .1 j (omega arith)),
+          ),
     )
 
 pub expanded-words-agree-spec : {M : Type 1} → statement M

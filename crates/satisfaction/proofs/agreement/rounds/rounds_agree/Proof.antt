@@ -1,6 +1,4 @@
--- Before turn j A to H are those before round j, and the wires of the first j rounds agree. The result is what they are after the
--- last round, with the words that the block began with.
-use mathlib.Core.Bool.{false≢true}
+-- Before turn j A to H are those before round j, and the wires of the first j rounds agree.
 use mathlib.Core.Path.{_≡_, _∙_, ap, refl}
 use Prim.Native.Nat.{ℕ, _+_, _-_, _*_, _<_, _≤_}
 use native.Mathlib.Omega.{arith}
@@ -8,22 +6,22 @@ use borrow.Author.Count.{below-more, below-none}
 use borrow.Author.Needs.{needs}
 use borrow.Author.Tests.{not-false}
 use Rattle.assignment.proofs.OneMore.{one-round}
-use Rattle.block.specs.BlockWires.{roundWires, stateWires}
+use Rattle.block.specs.BlockWires.{roundWires}
 use Rattle.block.specs.Wires.{roundWidth}
-use Rattle.satisfaction.proofs.Agreeing.{agrees-as, agrees-rows, agrees-then}
+use Rattle.satisfaction.proofs.Agreeing.{agrees-as, agrees-rows}
 use Rattle.satisfaction.specs.Agrees.{Agrees}
-use Rattle.sm3.specs.Sm3.{rounds, xorState}
+use Rattle.sm3.specs.Sm3.{rounds}
 use denote.Ref.{now}
 use Rattle.satisfaction.proofs.agreement.rounds.rounds_agree.Statement.{statement}
 use Rattle.satisfaction.proofs.agreement.rounds.rounds_agree.Tie as tie
 
 abbrev Inv-loop : tie.InvT-loop
-Inv-loop assignment w v x t s₀ j₀ s j =
-    (j ≤ 64) × (s ≡ rounds x v j)
-    × ((i : ℕ) → i < j → Agrees (w .0 + roundWidth * i) roundWidth (roundWires x i (rounds x v i)) assignment)
+Inv-loop assignment w x t s₀ j₀ s j =
+    (j ≤ 64) × (s ≡ rounds x s₀ j)
+    × ((i : ℕ) → i < j → Agrees (w .0 + roundWidth * i) roundWidth (roundWires x i (rounds x s₀ i)) assignment)
 
 abbrev μ-loop : tie.MeasureT-loop
-μ-loop assignment w v x t s₀ j₀ s j = 64 - j
+μ-loop assignment w x t s₀ j₀ s j = 64 - j
 
 loop-holds : tie.Need-loop-holds Inv-loop μ-loop
 unfolding rounds
@@ -42,7 +40,11 @@ round-agrees-requires : tie.Need-round-agrees-requires Inv-loop μ-loop
 round-agrees-requires c κs = search needs
 
 returns : tie.Need-returns Inv-loop μ-loop
-returns c = λ e. absurd (false≢true e)
+returns c =
+    let l = c .before .before .before .before .before in
+    let a = l .before .before .args in
+    let x = now (a .x) in
+    (omega arith, l .loop .inv .1, agrees-rows (l .loop .j) (λ j. roundWires x j (rounds x (a .v) j)) (l .loop .inv .2))
 
 after-round-requires : tie.Need-after-round-requires Inv-loop μ-loop
 after-round-requires c κs = search needs
@@ -69,29 +71,16 @@ loop-again c =
           (compared .round-agrees .ensures (not-false _ (c .before .if1 .left)) x j (l .loop .s) r)),
     )
 
-mul-t15 : tie.Need-mul-t15 Inv-loop μ-loop
-mul-t15 c = search needs
-
-add-t16 : tie.Need-add-t16 Inv-loop μ-loop
-add-t16 c = search needs
-
-xor-states-requires : tie.Need-xor-states-requires Inv-loop μ-loop
-xor-states-requires c κs = search needs
-
-state-agrees-requires : tie.Need-state-agrees-requires Inv-loop μ-loop
-state-agrees-requires c κs = search needs
-
 returns-2 : tie.Need-returns-2 Inv-loop μ-loop
 returns-2 c =
-    let l = c .before .before .before .before in
+    let l = c .before in
     let a = l .before .before .args in
     let x = now (a .x) in
-    let all : l .loop .j ≡ 64 = omega arith in
-    λ e.
-    agrees-then (a .w .0 + 64 * roundWidth) refl
-    (agrees-rows 64 (λ j. roundWires x j (rounds x (a .v) j)) (λ j b. l .loop .inv .2 j (omega arith)))
-    (agrees-as (ap stateWires (c .before .xor-states .ensures ∙ ap (λ s. xorState s (a .v)) (rw all at (l .loop .inv .1))))
-    (c .state-agrees .ensures e))
+    let all : l .loop .j ≡ 64 = omega arith in (
+      omega arith,
+      rw all at (l .loop .inv .1),
+      agrees-rows 64 (λ j. roundWires x j (rounds x (a .v) j)) (λ j b. l .loop .inv .2 j (omega arith)),
+    )
 
 pub rounds-agree-spec : {M : Type 1} → statement M
 rounds-agree-spec =
@@ -109,8 +98,4 @@ rounds-agree-spec =
     add-j
     loop-less
     loop-again
-    mul-t15
-    add-t16
-    xor-states-requires
-    state-agrees-requires
     returns-2)

@@ -1,10 +1,10 @@
 -- The word that the hash keeps of the sum, and after it the two bits of what passes 2^32, agree one after the other.
 use mathlib.Core.Bool.{false≢true}
-use mathlib.Core.Path.{_∙_, ap, refl}
+use mathlib.Core.Path.{_∙_, ap, refl, sym}
 use Prim.Native.Nat.{_+_}
 use native.Mathlib.Omega.{arith}
 use borrow.Author.Needs.{needs}
-use borrow.Author.Tests.{not-false}
+use borrow.Author.Tests.{eqb-true, not-false}
 use Rattle.assignment.proofs.HashSums.{higher-carry, lower-carry}
 use Rattle.forms.specs.WordWires.{carryWires, sumWires, wordWires}
 use Rattle.satisfaction.proofs.Agreeing.{agrees-as, agrees-next, agrees-none, agrees-then}
@@ -17,20 +17,20 @@ word-agrees-requires c κs = search needs
 returns : tie.Need-returns
 returns c = λ e. absurd (false≢true e)
 
-add-t6 : tie.Need-add-t6
-add-t6 c = search needs
+add-t7 : tie.Need-add-t7
+add-t7 c = search needs
 
-entry-agrees-requires : tie.Need-entry-agrees-requires
-entry-agrees-requires c κs = search needs
+read-requires : tie.Need-read-requires
+read-requires c κs = search needs
 
 returns-2 : tie.Need-returns-2
 returns-2 c = λ e. absurd (false≢true e)
 
-add-t6-2 : tie.Need-add-t6-2
-add-t6-2 c = search needs
+add-t7-2 : tie.Need-add-t7-2
+add-t7-2 c = search needs
 
-entry-agrees-requires-2 : tie.Need-entry-agrees-requires-2
-entry-agrees-requires-2 c κs = search needs
+read-requires-2 : tie.Need-read-requires-2
+read-requires-2 c κs = search needs
 
 returns-3 : tie.Need-returns-3
 unfolding sumWires
@@ -42,8 +42,8 @@ returns-3 c =
     λ e whole sum.
     agrees-then (w + 32) refl
     (agrees-as (ap wordWires (sum .word)) (first .before .word-agrees .ensures (not-false _ (first .if1 .left))))
-    (agrees-next (w + 33) (omega arith) (c .entry-agrees2 .ensures e ∙ lower-carry _ whole sum)
-    (agrees-next (w + 32) (omega arith) (second .before .entry-agrees .ensures (not-false _ (second .if2 .left)) ∙ higher-carry _ whole sum)
+    (agrees-next (w + 33) (omega arith) (sym (c .before .read2 .ensures) ∙ eqb-true _ _ e ∙ lower-carry _ whole sum)
+    (agrees-next (w + 32) (omega arith) (sym (second .before .before .read .ensures) ∙ second .if2 .left ∙ higher-carry _ whole sum)
     (agrees-none (w + 32) (carryWires whole) (a .assignment .now))))
 
 pub sum-agrees-spec : {M : Type 1} → statement M
@@ -52,9 +52,9 @@ sum-agrees-spec =
     (tie.spec
     word-agrees-requires
     returns
-    add-t6
-    entry-agrees-requires
+    add-t7
+    read-requires
     returns-2
-    add-t6-2
-    entry-agrees-requires-2
+    add-t7-2
+    read-requires-2
     returns-3)
