@@ -1,16 +1,16 @@
--- Demand 3. An accepted assignment satisfies all rows and its wire 0 reads 1, so its wires are those of the record that is
--- read off its record wires and packed into bytes; the digest wires among them have that record's digest and, as the check saw,
--- the bits of the given one. The other way round, the wires of a record satisfy all rows and have its digest.
-use mathlib.Core.List.{List, _++_}
-use mathlib.Core.Path.{_≡_, _∙_, ap, subst, sym}
+-- Demand 3. An accepted assignment satisfies all rows, its entries are below the prime and its wire 0 is 1, so its entries are the wires of
+-- the record that is read off its record wires and packed into bytes, and its bytes are those that the entries write; the digest wires
+-- among them have that record's digest and, as the check saw, the bits of the given one. The other way round, the assignment of a record
+-- satisfies all rows and has its digest.
+use mathlib.Core.List.{List}
+use mathlib.Core.Path.{_≡_, _∙_, ap, refl, subst, sym}
 use Prim.Native.Nat.{ℕ, _+_, _*_, _%_, _<_, _≤_}
-use native.Mathlib.Nat.{mod-eq-of-lt, zero-add}
+use native.Mathlib.Nat.{zero-add}
 use native.Mathlib.Omega.{arith}
 use borrow.Author.Tests.{le-ltb}
-use lib.ListN.{drop, length, length-append, take}
-use lib.Seq.{length-take-le}
-use Rattle.assignment.proofs.Entries.{entry-lt, entry-take, entry-written, length-entries}
-use Rattle.assignment.specs.Assignment.{entry, entryBytes}
+use lib.ListN.{length, take}
+use Rattle.assignment.proofs.Entries.{bytes-of-entries, entries-front, entry-of-wire, entry-written, length-entries}
+use Rattle.assignment.specs.Assignment.{entry}
 use Rattle.circuit.specs.Circuit.{rowAt}
 use Rattle.circuit.specs.Wires.{wireCount}
 use Rattle.circuit.specs.declared.circuits.Circuit.the-variants.{Record}
@@ -26,133 +26,142 @@ use Rattle.record.proofs.DigestBits.{bit-of-digest, digest-bytes, lengt
 use Rattle.record.proofs.exact.Record.{readOff, wires-congruent}
 use Rattle.record.proofs.exact.Whole.{circuit, digest-agrees, some-record}
 use Rattle.record.proofs.exact.WireBits.{judged-wires, wire-lt}
-use Rattle.record.specs.Demand3.{Demand3, HasWires, IsAccepted}
+use Rattle.record.specs.Demand3.{Demand3, IsAccepted}
 use Rattle.record.specs.Layout.{wireOf}
 use Rattle.record.specs.Produce.{assignmentOf, produceAnswer, produceLeft}
 use Rattle.refusal.specs.declared.outcome.Outcome.the-variants.{Done}
-use Rattle.satisfaction.proofs.Acceptance.{Accepts}
+use Rattle.satisfaction.proofs.Acceptance.{Accepts, Passed, judged-entries}
 use Rattle.sm3.proofs.handed.Asked.{handed-passes}
 use Rattle.sm3.specs.Handed.{IsRecord}
 use Rattle.sm3.specs.Message.{digestBytes, mostBits}
 
--- An assignment with the wires of a record of n bits is accepted against the record's digest.
-module _ (n : ℕ) (r a : List ℕ) (wires : HasWires n r a) where
-  agree : Agree (entry a) 0 (wireCount (Record n)) (wireOf n (bitOfBytes r))
-  agree k l = ap (entry a) (zero-add k) ∙ wires k l
+-- The assignment that is written from a record.
+module _ (n : ℕ) (r : List ℕ) where
+  bits : (k : ℕ) → k < n → bitOfBytes r k < 2
+  bits k l = bit-of-bytes-lt r k
 
-  digest-wires : (k : ℕ) → k < 256 → entry a (1 + k) ≡ bitOfBytes (digestBytes n r) k
-  digest-wires k l = digest-agrees n (entry a) (bitOfBytes r) agree k l ∙ sym (bit-of-digest n r k l)
+  -- wires that are the record's have its digest
+  pub digest-wires : (a : ℕ → ℕ) → Agree a 0 (wireCount (Record n)) (wireOf n (bitOfBytes r))
+      → (k : ℕ) → k < 256 → a (1 + k) ≡ bitOfBytes (digestBytes n r) k
+  digest-wires a agree k l = digest-agrees n a (bitOfBytes r) agree k l ∙ sym (bit-of-digest n r k l)
 
-  pub record-accepted : n ≤ mostBits → length a ≡ 8 * wireCount (Record n) → IsAccepted n (digestBytes n r) a
-  unfolding rowAt wireCount
-  record-accepted range long =
-      let bits : (k : ℕ) → k < n → bitOfBytes r k < 2 = λ k l. bit-of-bytes-lt r k in
-      let one : entry a 0 ≡ 1 = wires 0 (omega arith) ∙ judged-wires n (bitOfBytes r) bits .one in
-      accepted-iff n (digestBytes n r) a .1 (
+  abbrev assigned : List ℕ
+  assigned = assignmentOf n (bitOfBytes r)
+
+  pub assigned-wires : (w : ℕ) → w < wireCount (Record n) → entry assigned w ≡ wireOf n (bitOfBytes r) w
+  unfolding assignmentOf
+  assigned-wires w l = entry-written _ _ w l (omega (arith, wire-lt n (bitOfBytes r) bits w))
+
+  agree : Agree (entry assigned) 0 (wireCount (Record n)) (wireOf n (bitOfBytes r))
+  agree w l = ap (entry assigned) (zero-add w) ∙ assigned-wires w l
+
+  passed : Passed (Record n) (digestBytes n r) assigned
+  unfolding wireCount assignmentOf
+  passed =
+      record {
+        digest-length = length-digest n r;
+        assignment-length = length-entries _ _;
+        below = λ w l. omega (arith, assigned-wires w l, wire-lt n (bitOfBytes r) bits w);
+        one = assigned-wires 0 (omega arith) ∙ judged-wires n (bitOfBytes r) bits .one;
+        digest-wires = digest-wires (entry assigned) agree;
+      }
+
+  -- it is accepted against the record's digest
+  assigned-accepted : n ≤ mostBits → IsAccepted n (digestBytes n r) assigned
+  unfolding rowAt
+  assigned-accepted range =
+      accepted-iff n (digestBytes n r) assigned .1 (
         range,
         record {
-          passed =
-              record {
-                digest-length = length-digest n r;
-                assignment-length = long;
-                one = one;
-                digest-wires = digest-wires;
-              };
-          satisfied = some-record n (entry a) (record { one = one; below = entry-lt a }) .1 (bitOfBytes r, bits, agree);
+          passed = passed;
+          satisfied = some-record n (entry assigned) (judged-entries passed) .1 (bitOfBytes r, bits, agree);
         },
       )
 
--- An accepted assignment has the wires of the record that is read off, and was held against that record's digest.
-module _ (n : ℕ) (d a : List ℕ) (accepted : IsAccepted n d a) where
-  accepts : Accepts (Record n) d a
-  accepts = accepted-iff n d a .0 accepted .1
-
-  pub accepted-wires : (w : ℕ) → w < wireCount (Record n) → entry a w ≡ wireOf n (readOff (entry a)) w
-  unfolding rowAt
-  accepted-wires w l =
-      ap (entry a) (sym (zero-add w))
-      ∙ circuit n (entry a) (record { one = accepts .passed .one; below = entry-lt a }) .0 (accepts .satisfied) w l
-
-  abbrev readBits : ℕ → ℕ
-  readBits = readOff (entry a)
-
+-- Wires that are those of what is read off them, with the bits of a digest: some record has that digest and reads so.
+module _ (n : ℕ) (d : List ℕ) (a : ℕ → ℕ) (wires : Agree a 0 (wireCount (Record n)) (wireOf n (readOff a)))
+    (size : length d ≡ 32) (reads : (k : ℕ) → k < 256 → a (1 + k) ≡ bitOfBytes d k) where
   abbrev readRecord : List ℕ
-  readRecord = packedBytes n readBits
+  readRecord = packedBytes n (readOff a)
 
-  bits-read : (k : ℕ) → k < n → readBits k < 2
+  bits-read : (k : ℕ) → k < n → readOff a k < 2
   bits-read k l = omega arith
 
   is-record : IsRecord n readRecord
   is-record =
       record {
-        bytes = packed-bytes n readBits bits-read;
-        size = length-packed n readBits;
-        spare = spare-of-packed n readBits bits-read;
+        bytes = packed-bytes n (readOff a) bits-read;
+        size = length-packed n (readOff a);
+        spare = spare-of-packed n (readOff a) bits-read;
       }
 
-  read-wires : HasWires n readRecord a
-  read-wires w l =
-      let same : wireOf n (bitOfBytes readRecord) ≡ wireOf n readBits =
-      wires-congruent n _ _ (packed-bit n readBits bits-read) in
-      accepted-wires w l ∙ ap (λ s. s w) (sym same)
+  same-bits : (k : ℕ) → k < n → readOff a k ≡ bitOfBytes readRecord k
+  same-bits k l = sym (packed-bit n (readOff a) bits-read k l)
 
-  pub accepted-record : Bytes d → (r : List ℕ) × IsRecord n r × (digestBytes n r ≡ d) × HasWires n r a
-  accepted-record h = (
+  read-wires : Agree a 0 (wireCount (Record n)) (wireOf n (bitOfBytes readRecord))
+  read-wires = subst (Agree a 0 (wireCount (Record n))) (wires-congruent n _ _ same-bits) wires
+
+  pub read-record : Bytes d → (r : List ℕ) × IsRecord n r × (digestBytes n r ≡ d) × ((k : ℕ) → k < n → readOff a k ≡ bitOfBytes r k)
+  read-record h = (
     readRecord,
     is-record,
-    bytes-ext (digestBytes n readRecord) d (length-digest n readRecord ∙ sym (accepts .passed .digest-length))
-        (digest-bytes n readRecord) h
+    bytes-ext (digestBytes n readRecord) d (length-digest n readRecord ∙ sym size) (digest-bytes n readRecord) h
         (λ k l.
         let below : k < 256 = omega (arith, length-digest n readRecord) in
-        sym (digest-wires n readRecord a read-wires k below) ∙ accepts .passed .digest-wires k below),
-    read-wires,
+        sym (digest-wires n readRecord a read-wires k below) ∙ reads k below),
+    same-bits,
   )
 
--- What the producer leaves has the record's wires.
-module _ (n : ℕ) (r rest : List ℕ) where
-  abbrev left : List ℕ
-  left = assignmentOf n (bitOfBytes r) ++ rest
+-- An accepted assignment has the wires of what is read off.
+module _ (n : ℕ) (d a : List ℕ) (accepted : IsAccepted n d a) where
+  accepts : Accepts (Record n) d a
+  accepts = accepted-iff n d a .0 accepted .1
 
-  abbrev count : ℕ
-  count = wireCount (Record n)
+  read-off-wires : Agree (entry a) 0 (wireCount (Record n)) (wireOf n (readOff (entry a)))
+  unfolding rowAt
+  read-off-wires = circuit n (entry a) (judged-entries (accepts .passed)) .0 (accepts .satisfied)
 
-  produced-wires : HasWires n r (take (8 * count) left)
+  pub accepted-wires : (w : ℕ) → w < wireCount (Record n) → entry a w ≡ wireOf n (readOff (entry a)) w
+  accepted-wires w l = ap (entry a) (sym (zero-add w)) ∙ read-off-wires w l
+
+  -- byte for byte
+  accepted-bytes : Bytes a → (s : ℕ → ℕ) → ((k : ℕ) → k < n → readOff (entry a) k ≡ s k) → a ≡ assignmentOf n s
   unfolding assignmentOf
-  produced-wires w l =
-      let bit : wireOf n (bitOfBytes r) w < 2 = wire-lt n (bitOfBytes r) (λ k l. bit-of-bytes-lt r k) w in
-      entry-take count left w l
-      ∙ entry-written count (wireOf n (bitOfBytes r)) rest w l (omega arith)
-      ∙ mod-eq-of-lt (omega arith)
+  accepted-bytes bytes s same =
+      bytes-of-entries _ _ a bytes (accepts .passed .assignment-length)
+      (λ w l. accepted-wires w l ∙ ap (λ t. t w) (wires-congruent n _ _ same))
 
-  produced-length : length (take (8 * count) left) ≡ 8 * count
-  unfolding assignmentOf
-  produced-length =
-      let s : ℕ → ℕ = wireOf n (bitOfBytes r) in
-      length-take-le (8 * count) left (omega (arith, length-append (entryBytes count s) rest, length-entries count s))
+  accepted-record : Bytes d → Bytes a → (r : List ℕ) × IsRecord n r × (digestBytes n r ≡ d) × (a ≡ assignmentOf n (bitOfBytes r))
+  accepted-record digest bytes =
+      let (r, is, same, read) =
+      read-record n d (entry a) read-off-wires (accepts .passed .digest-length) (accepts .passed .digest-wires) digest in
+      (r, is, same, accepted-bytes bytes (bitOfBytes r) read)
 
-  produced-accepted : n ≤ mostBits → IsAccepted n (digestBytes n r) (take (8 * count) left)
-  produced-accepted range = record-accepted n r (take (8 * count) left) produced-wires range produced-length
-
--- .. and a record in range is not refused where there is room
+-- A record in range is not refused where there is room, and what the producer leaves is the record's assignment.
 not-refused : (n : ℕ) (r : List ℕ) (room : ℕ) → n ≤ mostBits → IsRecord n r → 8 * wireCount (Record n) ≤ room → produceAnswer n r room ≡ Done
 not-refused n r room range is fits = handed-passes n r _ range is ∙ rw (le-ltb room (8 * wireCount (Record n)) fits)
+
+produced-front : (n : ℕ) (r out : List ℕ) → take (8 * wireCount (Record n)) (produceLeft Done n r out) ≡ assignmentOf n (bitOfBytes r)
+unfolding assignmentOf
+produced-front n r out = entries-front _ _ _
 
 pub demand3 : Demand3
 demand3 =
     record {
       unique =
-          λ n d₁ d₂ a₁ a₂ h₁ h₂ same w l.
-          accepted-wires n d₁ a₁ h₁ w l
-          ∙ ap (λ s. s w) (wires-congruent n _ _ (λ k b. ap (λ x. x % 2) (same k b)))
-          ∙ sym (accepted-wires n d₂ a₂ h₂ w l);
+          λ n d₁ d₂ a₁ a₂ b₁ b₂ h₁ h₂ same.
+          accepted-bytes n d₁ a₁ h₁ b₁ (readOff (entry a₁)) (λ k b. refl)
+          ∙ sym (accepted-bytes n d₂ a₂ h₂ b₂ (readOff (entry a₁)) (λ k b. ap (λ x. x % 2) (sym (entry-of-wire a₁ a₂ _ (same k b)))));
       exact =
-          λ n d a range size digest long bytes. (
-            λ h. accepted-record n d a h digest,
-            λ (r, is, same, wires). subst (λ d. IsAccepted n d a) same (record-accepted n r a wires range long),
+          λ n d a range digest bytes. (
+            λ h. accepted-record n d a h digest bytes,
+            λ (r, is, same, whole).
+                subst (λ a. IsAccepted n d a) (sym whole)
+                (subst (λ d. IsAccepted n d (assignmentOf n (bitOfBytes r))) same (assigned-accepted n r range)),
           );
       produced =
           λ n r out range is room.
           subst (λ answer. IsAccepted n (digestBytes n r) (take (8 * wireCount (Record n)) (produceLeft answer n r out)))
           (sym (not-refused n r (length out) range is room))
-          (produced-accepted n r (drop (8 * wireCount (Record n)) out) range);
+          (subst (IsAccepted n (digestBytes n r)) (sym (produced-front n r out)) (assigned-accepted n r range));
     }

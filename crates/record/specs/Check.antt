@@ -1,4 +1,4 @@
--- The answer of `check` (document 01, "Refusals in checking order").
+-- The answer of `check` (document 01, "Refusals in checking order"; document 02, request 6).
 use mathlib.Core.Bool.{cond}
 use mathlib.Core.List.{List}
 use Prim.Native.Nat.{ℕ}
@@ -10,7 +10,7 @@ use Rattle.refusal.specs.declared.outcome.Refusal.the-variants.{LengthAboveLimi
 use Rattle.satisfaction.specs.Check.{circuitCheck}
 use Rattle.sm3.specs.Message.{mostBits}
 
--- the check of an assignment for a record of n bits against a digest: "2. The record length is above" 8,127; then 5 to 9, which are
--- those of every circuit
+-- the check of an assignment for a record of n bits against a digest: "2. The record length is above" 8,127; then 5, 6, 20, 7, 8
+-- and 9, which are those of every circuit
 unfoldable pub checkAnswer : ℕ → List ℕ → List ℕ → Outcome
 checkAnswer n digest assignment = cond (ltb mostBits n) (Refused LengthAboveLimit) (circuitCheck (Record n) digest assignment)

@@ -7,6 +7,7 @@ use Prim.Native.Nat.{ℕ, _+_, _*_}
 use lib.Dec.{eqb, leb, ltb}
 use lib.ListN.{length}
 use Rattle.assignment.specs.Assignment.{entry}
+use Rattle.assignment.specs.BelowPrime.{belowPrimeAnswer}
 use Rattle.circuit.specs.Circuit.{rowAt}
 use Rattle.circuit.specs.GivenRow.{counted}
 use Rattle.circuit.specs.WholeBytes.{rowsOfBytes, wiresOfBytes}
@@ -43,13 +44,14 @@ pub record WholeBytes : Type 0 where
       → produceAnswer (8 * length r) r room
       ≡ cond (ltb mostBytes (length r)) (Refused LengthAboveLimit)
       (cond (ltb room (8 * wiresOfBytes (length r))) (Refused BufferTooShort) Done)
-  -- "5. The digest .. is not 32 bytes." "6. An assignment .. is not exactly 8 × wires bytes." "7. Wire 0 does not read as 1." "8. A
-  -- digest wire does not read as its bit of the digest." "9. A row is not satisfied"
+  -- "5. The digest .. is not 32 bytes." "6. An assignment .. is not exactly 8 × wires bytes." "20, an entry of p or more" "7. Wire 0
+  -- does not read as 1." "8. A digest wire does not read as its bit of the digest." "9. A row is not satisfied"
   pub check : (L : ℕ) (d a : List ℕ)
       → checkAnswer (8 * L) d a
       ≡ cond (ltb mostBytes L) (Refused LengthAboveLimit)
       (cond (not (eqb (length d) 32)) (Refused DigestNot32)
       (cond (not (eqb (length a) (8 * wiresOfBytes L))) (Refused WrongLength)
+      (belowPrimeAnswer (wiresOfBytes L) a
       (cond (not (eqb (entry a 0) 1)) (Refused WireZero)
       (cond (not (same 256 (λ k. entry a (1 + k)) (bitOfBytes d))) (Refused DigestWire)
-      (afterRows (lowest (entry a) (rowAt (Record (8 * L))) 0 (rowsOfBytes L)))))))
+      (afterRows (lowest (entry a) (rowAt (Record (8 * L))) 0 (rowsOfBytes L))))))))
