@@ -1,18 +1,16 @@
 -- Acceptance between two bounds is exact. An accepted assignment satisfies all rows, so the record that is read off its record wires lies in the band
--- and all wires are its own; its first 45,569 entries are then accepted as a record's, which has the digest. The other way round, the wires of
--- a record in the band satisfy all rows.
+-- and all wires are its own; its bytes are those that the entries write, and its digest wires have that record's digest. The other way
+-- round, the assignment of a record in the band satisfies all rows and has its digest.
 use mathlib.Core.Bool.{true}
-use mathlib.Core.List.{List, _++_}
-use mathlib.Core.Path.{_≡_, _∙_, ap, subst, sym}
+use mathlib.Core.List.{List}
+use mathlib.Core.Path.{_≡_, _∙_, ap, refl, subst, sym}
 use Prim.Native.Nat.{ℕ, _+_, _*_, _%_, _<_, _≤_}
-use native.Mathlib.Nat.{mod-eq-of-lt, zero-add}
+use native.Mathlib.Nat.{zero-add}
 use native.Mathlib.Omega.{arith}
 use borrow.Author.Tests.{eq-eqb, le-ltb}
-use lib.Dec.{lit≤}
-use lib.ListN.{drop, length, length-append, take}
-use lib.Seq.{length-take-le}
-use Rattle.assignment.proofs.Entries.{entry-lt, entry-take, entry-written, length-entries}
-use Rattle.assignment.specs.Assignment.{entry, entryBytes}
+use lib.ListN.{length, take}
+use Rattle.assignment.proofs.Entries.{bytes-of-entries, entries-front, entry-of-wire, entry-written, length-entries}
+use Rattle.assignment.specs.Assignment.{entry}
 use Rattle.axles.proofs.Accepted.{accepted-iff}
 use Rattle.axles.proofs.Bands.{BandBits, band-bits, band-iff}
 use Rattle.axles.proofs.Congruent.{axle-wires-congruent, band-congruent}
@@ -20,7 +18,7 @@ use Rattle.axles.proofs.Counts.{axle-wires, record-wires}
 use Rattle.axles.proofs.exact.Appended.{number-wire-lt}
 use Rattle.axles.proofs.exact.Whole.{axle-circuit, wires-apart}
 use Rattle.axles.specs.Band.{InBand}
-use Rattle.axles.specs.Exact.{AxlesExact, HasWires, IsAccepted}
+use Rattle.axles.specs.Exact.{AxlesExact, IsAccepted}
 use Rattle.axles.specs.Layout.{axleWireOf, numbers}
 use Rattle.axles.specs.Produce.{axleAssignmentOf, axlesProduceAnswer, axlesProduceLeft}
 use Rattle.circuit.proofs.axles.Bounds.{bounds-iff}
@@ -33,32 +31,20 @@ use Rattle.circuit.specs.declared.circuits.Circuit.the-variants.{Axles, Record}
 use Rattle.encoding.proofs.Bits.{bit-of-bytes-lt}
 use Rattle.encoding.specs.Bits.{bitOfBytes}
 use Rattle.encoding.specs.Bytes.{Bytes}
-use Rattle.forms.proofs.exact.Runs.{Agree, Judged}
-use Rattle.record.proofs.Accepted.{accepted-iff as record-iff}
-use Rattle.record.proofs.Demand3.{accepted-record, record-accepted}
-use Rattle.record.proofs.exact.Record.{read-off, readOff, record-wire-lt, wires-congruent}
-use Rattle.record.proofs.exact.Whole.{circuit}
-use Rattle.record.proofs.exact.WireBits.{beside-bits, wire-lt}
-use Rattle.record.specs.Demand3 as plain
-use Rattle.record.specs.Layout.{recordWire, wireOf}
+use Rattle.forms.proofs.exact.Runs.{Agree}
+use Rattle.record.proofs.Demand3.{digest-wires, read-record}
+use Rattle.record.proofs.DigestBits.{length-digest}
+use Rattle.record.proofs.exact.Record.{read-off, readOff}
+use Rattle.record.proofs.exact.WireBits.{beside-bits, judged-wires, wire-lt}
+use Rattle.record.specs.Layout.{wireOf}
 use Rattle.refusal.specs.declared.outcome.Outcome.the-variants.{Done}
-use Rattle.satisfaction.proofs.Acceptance.{Accepts}
+use Rattle.satisfaction.proofs.Acceptance.{Accepts, Passed, judged-entries}
 use Rattle.sm3.specs.Handed.{IsRecord}
 use Rattle.sm3.specs.Message.{digestBytes}
 
 -- the entries of the record's wires
 abbrev entries : ℕ
 entries = wireCount (Record axleBits)
-
-abbrev front : List ℕ → List ℕ
-front a = take (8 * entries) a
-
-front-entry : (a : List ℕ) (w : ℕ) → w < entries → entry (front a) w ≡ entry a w
-front-entry a w l = entry-take entries a w l
-
--- where the record's wires agree, the record is read off again
-front-read : (a : List ℕ) (k : ℕ) → k < axleBits → readOff (entry (front a)) k ≡ readOff (entry a) k
-front-read a k l = ap (λ x. x % 2) (front-entry a (recordWire k) (record-wire-lt axleBits k l))
 
 -- An accepted assignment.
 module _ (lower upper : ℕ) (d a : List ℕ) (accepted : IsAccepted lower upper d a) where
@@ -68,135 +54,91 @@ module _ (lower upper : ℕ) (d a : List ℕ) (accepted : IsAccepted lower upper
   accepts : Accepts (Axles lower upper) d a
   accepts = accepted-iff lower upper d a .0 accepted .1
 
-  judged : Judged (entry a)
-  judged = record { one = accepts .passed .one; below = entry-lt a }
-
   read-whole : BandBits lower upper (readOff (entry a))
       × Agree (entry a) 0 (wireCount (Axles lower upper)) (axleWireOf lower upper (readOff (entry a)))
   unfolding rowAt
-  read-whole = axle-circuit lower upper (entry a) judged (omega (arith, allowed)) (omega (arith, allowed)) .0 (accepts .satisfied)
+  read-whole =
+      axle-circuit lower upper (entry a) (judged-entries (accepts .passed)) (omega (arith, allowed)) (omega (arith, allowed)) .0 (accepts .satisfied)
 
-  accepted-wires : (w : ℕ) → w < wireCount (Axles lower upper) → entry a w ≡ axleWireOf lower upper (readOff (entry a)) w
-  accepted-wires w l = ap (entry a) (sym (zero-add w)) ∙ read-whole .1 w l
+  -- it is that of the record that is read off, byte for byte
+  accepted-bytes : Bytes a → (r : ℕ → ℕ) → ((k : ℕ) → k < axleBits → readOff (entry a) k ≡ r k) → a ≡ axleAssignmentOf lower upper r
+  unfolding axleAssignmentOf
+  accepted-bytes bytes r same =
+      bytes-of-entries _ _ a bytes (accepts .passed .assignment-length)
+      (λ w l. ap (entry a) (sym (zero-add w)) ∙ read-whole .1 w l ∙ ap (λ s. s w) (axle-wires-congruent _ _ same lower upper))
 
-  -- its front is accepted as a record's
-  front-accepted : plain.IsAccepted axleBits d (front a)
-  unfolding rowAt
-  front-accepted =
-      let b : List ℕ = front a in
-      let passed = accepts .passed in
-      let one : entry b 0 ≡ 1 = front-entry a 0 (omega (arith, record-wires)) ∙ passed .one in
-      let wires : Agree (entry b) 0 entries (wireOf axleBits (readOff (entry b))) =
-      λ w l.
-      ap (entry b) (zero-add w) ∙ front-entry a w l ∙ ap (entry a) (sym (zero-add w)) ∙ wires-apart lower upper (entry a) (readOff (entry a)) .0 (read-whole .1) .0 w l
-      ∙ ap (λ s. s w) (wires-congruent axleBits _ _ (λ k h. sym (front-read a k h))) in
-      record-iff axleBits d b .1 (
-        lit≤ tt,
-        record {
-          passed =
-              record {
-                digest-length = passed .digest-length;
-                assignment-length =
-                    length-take-le (8 * entries) a
-                    (omega (arith, passed .assignment-length, record-wires, axle-wires lower upper));
-                one = one;
-                digest-wires =
-                    λ k l. front-entry a (1 + k) (omega (arith, record-wires)) ∙ passed .digest-wires k l;
-              };
-          satisfied = circuit axleBits (entry b) (record { one = one; below = entry-lt b }) .1 wires;
-        },
-      )
-
-  band-record : Bytes d
-      → (r : List ℕ) × IsRecord axleBits r × (digestBytes axleBits r ≡ d) × InBand lower upper r × HasWires lower upper r a
-  band-record h =
-      let (r, is, digest, wires) = accepted-record axleBits d (front a) front-accepted h in
-      let agree : Agree (entry (front a)) 0 entries (wireOf axleBits (bitOfBytes r)) = λ w l. ap (entry (front a)) (zero-add w) ∙ wires w l in
-      let same : (k : ℕ) → k < axleBits → readOff (entry a) k ≡ bitOfBytes r k =
-      λ k l. sym (front-read a k l) ∙ read-off axleBits (entry (front a)) (bitOfBytes r) (λ k l. bit-of-bytes-lt r k) agree k l in (
+  band-record : Bytes d → Bytes a
+      → (r : List ℕ) × IsRecord axleBits r × (digestBytes axleBits r ≡ d) × InBand lower upper r × (a ≡ axleAssignmentOf lower upper (bitOfBytes r))
+  band-record digest bytes =
+      let wires = wires-apart lower upper (entry a) (readOff (entry a)) .0 (read-whole .1) .0 in
+      let (r, is, same-digest, same) =
+      read-record axleBits d (entry a) wires (accepts .passed .digest-length) (accepts .passed .digest-wires) digest in (
         r,
         is,
-        digest,
+        same-digest,
         band-bits lower upper r (is .bytes) .1 (band-congruent _ _ same lower upper (read-whole .0)),
-        λ w l. accepted-wires w l ∙ ap (λ s. s w) (axle-wires-congruent _ _ same lower upper),
+        accepted-bytes bytes (bitOfBytes r) same,
       )
 
--- An assignment with the wires of a record in the band.
-module _ (lower upper : ℕ) (r a : List ℕ) (bounds : Allowed (Axles lower upper)) (is : IsRecord axleBits r) (band : InBand lower upper r)
-    (wires : HasWires lower upper r a) (long : length a ≡ 8 * wireCount (Axles lower upper)) where
-  agree : Agree (entry a) 0 (wireCount (Axles lower upper)) (axleWireOf lower upper (bitOfBytes r))
-  agree w l = ap (entry a) (zero-add w) ∙ wires w l
+-- The assignment of a record.
+module _ (lower upper : ℕ) (r : List ℕ) where
+  abbrev assigned : List ℕ
+  assigned = axleAssignmentOf lower upper (bitOfBytes r)
 
-  front-wires : plain.HasWires axleBits r (front a)
-  front-wires w l =
-      front-entry a w l ∙ ap (entry a) (sym (zero-add w)) ∙ wires-apart lower upper (entry a) (bitOfBytes r) .0 agree .0 w l
-
-  front-passed : Accepts (Record axleBits) (digestBytes axleBits r) (front a)
-  front-passed =
-      record-iff axleBits (digestBytes axleBits r) (front a) .0
-      (record-accepted axleBits r (front a) front-wires (lit≤ tt)
-      (length-take-le (8 * entries) a (omega (arith, long, record-wires, axle-wires lower upper))))
-      .1
-
-  bits-read : (k : ℕ) → k < axleBits → bitOfBytes r k ≡ readOff (entry a) k
-  bits-read k l =
-      sym
-      (sym (front-read a k l)
-      ∙ read-off axleBits (entry (front a)) (bitOfBytes r) (λ k l. bit-of-bytes-lt r k) (λ w l. ap (entry (front a)) (zero-add w) ∙ front-wires w l) k l)
-
-  band-accepted : IsAccepted lower upper (digestBytes axleBits r) a
-  unfolding rowAt
-  band-accepted =
-      let passed = front-passed .passed in
-      let one : entry a 0 ≡ 1 = sym (front-entry a 0 (omega (arith, record-wires))) ∙ passed .one in
-      accepted-iff lower upper (digestBytes axleBits r) a .1 (
-        bounds,
-        record {
-          passed =
-              record {
-                digest-length = passed .digest-length;
-                assignment-length = long;
-                one = one;
-                digest-wires =
-                    λ k l. sym (front-entry a (1 + k) (omega (arith, record-wires))) ∙ passed .digest-wires k l;
-              };
-          satisfied =
-              axle-circuit lower upper (entry a) (record { one = one; below = entry-lt a }) (omega (arith, bounds)) (omega (arith, bounds)) .1 (
-                band-congruent _ _ bits-read lower upper (band-bits lower upper r (is .bytes) .0 band),
-                subst (Agree (entry a) 0 (wireCount (Axles lower upper))) (axle-wires-congruent _ _ bits-read lower upper) agree,
-              );
-        },
-      )
-
--- What the producer leaves has the record's wires.
-module _ (lower upper : ℕ) (r rest : List ℕ) where
-  abbrev left : List ℕ
-  left = axleAssignmentOf lower upper (bitOfBytes r) ++ rest
-
-  abbrev count : ℕ
-  count = wireCount (Axles lower upper)
+  bits : (k : ℕ) → k < axleBits → bitOfBytes r k < 2
+  bits k l = bit-of-bytes-lt r k
 
   axle-wire-lt : (w : ℕ) → axleWireOf lower upper (bitOfBytes r) w < 2
   unfolding axleWireOf numbers
   axle-wire-lt =
-      beside-bits entries _ _ (wire-lt axleBits (bitOfBytes r) (λ k l. bit-of-bytes-lt r k))
+      beside-bits entries _ _ (wire-lt axleBits (bitOfBytes r) bits)
       (beside-bits 4 _ _ (number-wire-lt 4 _) (beside-bits 4 _ _ (number-wire-lt 4 _) (beside-bits 7 _ _ (number-wire-lt 7 _) (number-wire-lt 7 _))))
 
-  produced-wires : HasWires lower upper r (take (8 * count) left)
+  assigned-length : length assigned ≡ 8 * wireCount (Axles lower upper)
   unfolding axleAssignmentOf
-  produced-wires w l =
-      let bit : axleWireOf lower upper (bitOfBytes r) w < 2 = axle-wire-lt w in
-      entry-take count left w l
-      ∙ entry-written count (axleWireOf lower upper (bitOfBytes r)) rest w l (omega arith)
-      ∙ mod-eq-of-lt (omega arith)
+  assigned-length = length-entries _ _
 
-  produced-length : length (take (8 * count) left) ≡ 8 * count
+  assigned-wires : (w : ℕ) → w < wireCount (Axles lower upper) → entry assigned w ≡ axleWireOf lower upper (bitOfBytes r) w
   unfolding axleAssignmentOf
-  produced-length =
-      let s : ℕ → ℕ = axleWireOf lower upper (bitOfBytes r) in
-      length-take-le (8 * count) left (omega (arith, length-append (entryBytes count s) rest, length-entries count s))
+  assigned-wires w l = entry-written _ _ w l (omega (arith, axle-wire-lt w))
 
--- .. and a record in the band is not refused where there is room
+  agree : Agree (entry assigned) 0 (wireCount (Axles lower upper)) (axleWireOf lower upper (bitOfBytes r))
+  agree w l = ap (entry assigned) (zero-add w) ∙ assigned-wires w l
+
+  record-agree : Agree (entry assigned) 0 entries (wireOf axleBits (bitOfBytes r))
+  record-agree = wires-apart lower upper (entry assigned) (bitOfBytes r) .0 agree .0
+
+  passed : Passed (Axles lower upper) (digestBytes axleBits r) assigned
+  passed =
+      record {
+        digest-length = length-digest axleBits r;
+        assignment-length = assigned-length;
+        below = λ w l. omega (arith, assigned-wires w l, axle-wire-lt w);
+        one = record-agree 0 (omega (arith, record-wires)) ∙ judged-wires axleBits (bitOfBytes r) bits .one;
+        digest-wires = digest-wires axleBits r (entry assigned) record-agree;
+      }
+
+  bits-read : (k : ℕ) → k < axleBits → bitOfBytes r k ≡ readOff (entry assigned) k
+  bits-read k l = sym (read-off axleBits (entry assigned) (bitOfBytes r) bits record-agree k l)
+
+  -- it is accepted against the record's digest, where the record lies in the band
+  assigned-accepted : Allowed (Axles lower upper) → IsRecord axleBits r → InBand lower upper r
+      → IsAccepted lower upper (digestBytes axleBits r) assigned
+  unfolding rowAt
+  assigned-accepted bounds is band =
+      accepted-iff lower upper (digestBytes axleBits r) assigned .1 (
+        bounds,
+        record {
+          passed = passed;
+          satisfied =
+              axle-circuit lower upper (entry assigned) (judged-entries passed) (omega (arith, bounds)) (omega (arith, bounds)) .1 (
+                band-congruent _ _ bits-read lower upper (band-bits lower upper r (is .bytes) .0 band),
+                subst (Agree (entry assigned) 0 (wireCount (Axles lower upper))) (axle-wires-congruent _ _ bits-read lower upper) agree,
+              );
+        },
+      )
+
+-- A record in the band is not refused where there is room, and what the producer leaves is the record's assignment.
 not-refused : (lower upper : ℕ) (r : List ℕ) (room : ℕ) → boundsInRange lower upper ≡ true → IsRecord axleBits r → InBand lower upper r
     → 8 * wireCount (Axles lower upper) ≤ room → axlesProduceAnswer lower upper r room ≡ Done
 unfolding axlesProduceAnswer
@@ -208,20 +150,26 @@ not-refused lower upper r room bounds is band fits =
       le-ltb room (8 * wireCount (Axles lower upper)) fits,
     )
 
+produced-front : (lower upper : ℕ) (r out : List ℕ)
+    → take (8 * wireCount (Axles lower upper)) (axlesProduceLeft Done lower upper r out) ≡ axleAssignmentOf lower upper (bitOfBytes r)
+unfolding axleAssignmentOf
+produced-front lower upper r out = entries-front _ _ _
+
 pub axles-exact : AxlesExact
 axles-exact =
     record {
       unique =
-          λ lower upper d₁ d₂ a₁ a₂ h₁ h₂ same w l.
-          accepted-wires lower upper d₁ a₁ h₁ w l
-          ∙ ap (λ s. s w) (axle-wires-congruent _ _ (λ k b. ap (λ x. x % 2) (same k b)) lower upper)
-          ∙ sym (accepted-wires lower upper d₂ a₂ h₂ w l);
+          λ lower upper d₁ d₂ a₁ a₂ b₁ b₂ h₁ h₂ same.
+          accepted-bytes lower upper d₁ a₁ h₁ b₁ (readOff (entry a₁)) (λ k b. refl)
+          ∙ sym
+          (accepted-bytes lower upper d₂ a₂ h₂ b₂ (readOff (entry a₁)) (λ k b. ap (λ x. x % 2) (sym (entry-of-wire a₁ a₂ _ (same k b)))));
       exact =
-          λ lower upper d a bounds size digest long bytes. (
-            λ h. band-record lower upper d a h digest,
-            λ (r, is, same, band, wires).
-                subst (λ d. IsAccepted lower upper d a) same
-                (band-accepted lower upper r a (bounds-iff lower upper .0 bounds) is band wires long),
+          λ lower upper d a bounds digest bytes. (
+            λ h. band-record lower upper d a h digest bytes,
+            λ (r, is, same, band, whole).
+                subst (λ a. IsAccepted lower upper d a) (sym whole)
+                (subst (λ d. IsAccepted lower upper d (axleAssignmentOf lower upper (bitOfBytes r))) same
+                (assigned-accepted lower upper r (bounds-iff lower upper .0 bounds) is band)),
           );
       produced =
           λ lower upper r out bounds is band room.
@@ -229,8 +177,7 @@ axles-exact =
           (λ answer. IsAccepted lower upper (digestBytes axleBits r)
           (take (8 * wireCount (Axles lower upper)) (axlesProduceLeft answer lower upper r out)))
           (sym (not-refused lower upper r (length out) bounds is band room))
-          (band-accepted lower upper r _ (bounds-iff lower upper .0 bounds) is band
-          (produced-wires lower upper r (drop (8 * wireCount (Axles lower upper)) out))
-          (produced-length lower upper r (drop (8 * wireCount (Axles lower upper)) out)));
+          (subst (IsAccepted lower upper (digestBytes axleBits r)) (sym (produced-front lower upper r out))
+          (assigned-accepted lower upper r (bounds-iff lower upper .0 bounds) is band));
       shape = λ lower upper k bounds below. shape (Axles lower upper) (bounds-iff lower upper .0 bounds) k below;
     }

@@ -1,4 +1,4 @@
--- The answer of `check` (document 02, request 5).
+-- The answer of `check` (document 02, requests 5 and 6).
 use mathlib.Core.Bool.{cond, not}
 use mathlib.Core.List.{List}
 use Prim.Native.Nat.{ℕ}
@@ -9,7 +9,7 @@ use Rattle.refusal.specs.declared.outcome.Outcome.{Outcome}
 use Rattle.refusal.specs.declared.outcome.Refusal.the-variants.{BoundsOutOfRange}
 use Rattle.satisfaction.specs.Check.{circuitCheck}
 
--- the check of an assignment between two bounds against a digest: 18, then 5 to 9, which are those of every circuit
+-- the check of an assignment between two bounds against a digest: 18, then 5, 6, 20, 7, 8 and 9, which are those of every circuit
 unfoldable pub axlesCheckAnswer : ℕ → ℕ → List ℕ → List ℕ → Outcome
 axlesCheckAnswer lower upper digest assignment =
     cond (not (boundsInRange lower upper)) (Refused BoundsOutOfRange) (circuitCheck (Axles lower upper) digest assignment)
