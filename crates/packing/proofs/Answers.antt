@@ -3,22 +3,21 @@
 use mathlib.Core.Bool.{not}
 use mathlib.Core.List.{List}
 use mathlib.Core.Logic.{_↔_, Iff·rfl, by-cases}
-use mathlib.Core.Path.{_≡_, _∙_, ap, subst, sym}
+use mathlib.Core.Path.{_≡_, _∙_, ap}
 use Prim.Native.Nat.{ℕ, _*_, _<_, _≤_}
 use native.Mathlib.Decide.{decLt}
-use native.Mathlib.Nat.{zero-add}
 use native.Mathlib.Omega.{arith}
 use borrow.Author.Tests.{le-ltb, lt-ltb, ltb-false, ne-eqb}
 use lib.Dec.{eqb}
 use lib.ListN.{drop, length, take}
 use lib.Seq.{take-at}
-use Rattle.assignment.proofs.Entries.{length-entries}
+use Rattle.assignment.proofs.Entries.{entries-front}
 use Rattle.assignment.specs.Assignment.{entry}
 use Rattle.circuit.specs.Wires.{wireCount}
 use Rattle.circuit.specs.declared.circuits.Circuit.the-variants.{Record}
 use Rattle.encoding.proofs.PackedBits.{length-packed}
 use Rattle.encoding.specs.Packed.{packedBytes, packedLength, spareBits}
-use Rattle.packing.proofs.pack.EntriesAsked.{bits-done, done-bits}
+use Rattle.packing.proofs.pack.EntriesAsked.{asked-done}
 use Rattle.packing.specs.Pack.{packAnswer, packLeft}
 use Rattle.packing.specs.Packed.{unpackedBytes}
 use Rattle.packing.specs.PackedCheck.{packedCheckAnswer}
@@ -59,10 +58,8 @@ module _ (n : ℕ) where
   pack-done a room =
       past _ (Refused LengthAboveLimit) _ Done (ltb-false mostBits n, le-ltb mostBits n) (λ e. omega arith)
       (past _ (Refused BufferTooShort) _ Done (ltb-false room (packedLength wires), le-ltb room (packedLength wires)) (λ e. omega arith)
-      (past _ (Refused WrongLength) _ Done (equal-iff (length a) (8 * wires)) (λ e. omega arith) (
-        done-bits a wires,
-        λ bits. bits-done a 0 wires (λ i l. subst (λ w. entry a w < 2) (sym (zero-add i)) (bits i l)),
-      )))
+      (past _ (Refused WrongLength) _ Done (equal-iff (length a) (8 * wires)) (λ e. omega arith)
+      (asked-done wires a)))
 
   pub unpack-done : (p : List ℕ) (room : ℕ)
       → (unpackAnswer n p room ≡ Done)
@@ -89,9 +86,7 @@ module _ (n : ℕ) where
 
   pub unpacks-done : (p out : List ℕ) → unpackAnswer n p (length out) ≡ Done → unpacks n p out ≡ unpackedBytes wires p
   unfolding unpackedBytes
-  unpacks-done p out e =
-      ap (λ r. take (8 * wires) (unpackLeft r n p out)) e
-      ∙ take-at (unpackedBytes wires p) (drop (8 * wires) out) (8 * wires) (length-entries wires _)
+  unpacks-done p out e = ap (λ r. take (8 * wires) (unpackLeft r n p out)) e ∙ entries-front wires _ _
 
   -- The check of packed bytes by way of unpacking them into a buffer that is long enough.
   module _ (d p : List ℕ) (room : ℕ) (fits : n ≤ mostBits → 8 * wires ≤ room) where

@@ -1,27 +1,29 @@
 -- Packed bytes are accepted exactly when they are the packed wires of a record with this digest. Their entries are the bits, so demand
--- 3 gives the record and says that the bits are its wires; bytes with these bits and no spare bit set are the packed wires.
+-- 3 gives the record and says that the bits are its wires; bytes with these bits and no spare bit set are the packed wires. The other
+-- way round, packed wires unpack to the record's assignment.
 use mathlib.Core.List.{List}
 use mathlib.Core.Logic.{_↔_}
 use mathlib.Core.Path.{_≡_, _∙_, ap, sym}
 use Prim.Native.Nat.{ℕ, _<_, _≤_}
 use lib.ListN.{length}
 use Rattle.assignment.proofs.Entries.{entries-bytes}
+use Rattle.assignment.specs.Assignment.{entry}
 use Rattle.circuit.specs.Wires.{wireCount}
 use Rattle.circuit.specs.declared.circuits.Circuit.the-variants.{Record}
 use Rattle.encoding.proofs.Bits.{bit-of-bytes-lt}
-use Rattle.encoding.proofs.PackedBits.{length-packed, packed-bit, packed-known, spare-of-packed}
+use Rattle.encoding.proofs.PackedBits.{length-packed, packed-known, spare-of-packed}
 use Rattle.encoding.specs.Bits.{bitOfBytes}
 use Rattle.encoding.specs.Bytes.{Bytes}
 use Rattle.encoding.specs.Packed.{packedBytes, spareBits}
 use Rattle.packing.proofs.Answers.{check-done}
-use Rattle.packing.proofs.RoundTrip.{entry-of-unpacked, length-unpacked}
+use Rattle.packing.proofs.RoundTrip.{entry-of-unpacked, unpacked-packed}
 use Rattle.packing.specs.Packed.{unpackedBytes}
 use Rattle.packing.specs.PackedCheck.{PackedExact, packedCheckAnswer}
-use Rattle.record.proofs.Demand3.{demand3}
+use Rattle.record.proofs.Demand3.{assigned-wires, demand3}
 use Rattle.record.proofs.exact.WireBits.{wire-lt}
 use Rattle.record.specs.Check.{checkAnswer}
-use Rattle.record.specs.Demand3.{HasWires}
 use Rattle.record.specs.Layout.{wireOf}
+use Rattle.record.specs.Produce.{assignmentOf}
 use Rattle.refusal.specs.declared.outcome.Outcome.the-variants.{Done}
 use Rattle.sm3.specs.Handed.{IsRecord}
 use Rattle.sm3.specs.Message.{digestBytes, mostBits}
@@ -37,42 +39,39 @@ wiresOf n r = wireOf n (bitOfBytes r)
 wires-bits : (n : ℕ) (r : List ℕ) (w : ℕ) → w < wireCount (Record n) → wiresOf n r w < 2
 wires-bits n r w l = wire-lt n (bitOfBytes r) (λ k h. bit-of-bytes-lt r k) w
 
-module _ (n : ℕ) (d p : List ℕ) (range : n ≤ mostBits) (digest : length d ≡ 32) (digest-bytes : Bytes d) (bytes : Bytes p) where
+module _ (n : ℕ) (d p : List ℕ) (range : n ≤ mostBits) (digest : Bytes d) (bytes : Bytes p) where
   abbrev wires : ℕ
   wires = wireCount (Record n)
 
   abbrev u : List ℕ
   u = unpackedBytes wires p
 
-  entries-exact : (checkAnswer n d u ≡ Done) ↔ ((r : List ℕ) × IsRecord n r × (digestBytes n r ≡ d) × HasWires n r u)
-  entries-exact = demand3 .exact n d u range digest digest-bytes (length-unpacked wires p) (unpacked-bytes wires p)
+  entries-exact : (checkAnswer n d u ≡ Done)
+      ↔ ((r : List ℕ) × IsRecord n r × (digestBytes n r ≡ d) × (u ≡ assignmentOf n (bitOfBytes r)))
+  entries-exact = demand3 .exact n d u range digest (unpacked-bytes wires p)
 
   exact : (packedCheckAnswer n d p ≡ Done)
       ↔ ((r : List ℕ) × IsRecord n r × (digestBytes n r ≡ d) × (p ≡ packedBytes wires (wiresOf n r)))
+  unfolding assignmentOf
   exact = (
     λ accepted.
         let passed = check-done n d p .0 accepted in
-        let found = entries-exact .0 (passed .1 .1 .1) in
-        let r = found .0 in (
+        let (r, is, same, whole) = entries-exact .0 (passed .1 .1 .1) in (
           r,
-          found .1,
-          found .2,
+          is,
+          same,
           sym
               (packed-known wires (wiresOf n r) (wires-bits n r) p bytes (passed .1 .0) (passed .1 .1 .0)
-              (λ w l. sym (entry-of-unpacked wires p w l) ∙ found .3 w l)),
+              (λ w l. sym (entry-of-unpacked wires p w l) ∙ ap (λ a. entry a w) whole ∙ assigned-wires n r w l)),
         ),
-    λ found.
-        let r = found .0 in
-        let is = found .3 in
-        let same : (w : ℕ) → w < wires → bitOfBytes p w ≡ wiresOf n r w =
-        λ w l. ap (λ b. bitOfBytes b w) is ∙ packed-bit wires (wiresOf n r) (wires-bits n r) w l in
+    λ (r, is, same, packed).
         check-done n d p .1 (
           range,
           (
-            ap length is ∙ length-packed wires (wiresOf n r),
+            ap length packed ∙ length-packed wires (wiresOf n r),
             (
-              ap (spareBits wires) is ∙ spare-of-packed wires (wiresOf n r) (wires-bits n r),
-              entries-exact .1 (r, found .1, found .2, λ w l. entry-of-unpacked wires p w l ∙ same w l),
+              ap (spareBits wires) packed ∙ spare-of-packed wires (wiresOf n r) (wires-bits n r),
+              entries-exact .1 (r, is, same, ap (unpackedBytes wires) packed ∙ unpacked-packed wires (wiresOf n r) (wires-bits n r)),
             ),
           ),
         ),

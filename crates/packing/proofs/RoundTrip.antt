@@ -1,13 +1,12 @@
--- Packing and unpacking undo each other. Bit w of packed bytes is the value of wire w, which is 0 or 1 and so its own residue: entries
--- that are unpacked read as the bits, and bits that are packed are the entries. An accepted assignment's wires are those of a record,
--- which are bits. And the check reads nothing of an assignment but its length and its entries.
-use mathlib.Core.List.{List, [], append-nil}
-use mathlib.Core.Path.{_≡_, _∙_, ap, refl, subst, sym}
+-- Packing and unpacking undo each other. Bit w of packed bytes is the value of wire w: entries that are unpacked are the bits, and bits
+-- that are packed are the entries, which write the assignment's bytes. An accepted assignment's wires are those of a record, which are
+-- bits.
+use mathlib.Core.List.{List}
+use mathlib.Core.Path.{_≡_, _∙_, refl, subst, sym}
 use Prim.Native.Nat.{ℕ, _*_, _<_, _≤_}
-use native.Mathlib.Nat.{mod-eq-of-lt}
 use native.Mathlib.Omega.{arith}
 use lib.ListN.{length}
-use Rattle.assignment.proofs.Entries.{entries-same, entry-written, length-entries}
+use Rattle.assignment.proofs.Entries.{bytes-of-entries, entry-written, length-entries}
 use Rattle.assignment.proofs.Writes.{entries-congruent}
 use Rattle.assignment.specs.Assignment.{entry, entryBytes}
 use Rattle.circuit.specs.Wires.{wireCount}
@@ -17,7 +16,6 @@ use Rattle.encoding.proofs.PackedBits.{length-packed, packed-bit, packed-known,
 use Rattle.encoding.specs.Bits.{bitOfBytes}
 use Rattle.encoding.specs.Bytes.{Bytes}
 use Rattle.encoding.specs.Packed.{packedBytes, packedLength}
-use Rattle.field.specs.Field.{p}
 use Rattle.packing.proofs.Answers.{pack-done, packs-done, unpack-done, unpacks-done}
 use Rattle.packing.specs.Pack.{packAnswer}
 use Rattle.packing.specs.Packed.{unpackedBytes}
@@ -26,49 +24,26 @@ use Rattle.packing.specs.Unpack.{unpackAnswer}
 use Rattle.record.proofs.Accepted.{accepted-iff}
 use Rattle.record.proofs.Demand3.{accepted-wires}
 use Rattle.record.proofs.exact.WireBits.{wire-lt}
-use Rattle.record.specs.Check.{checkAnswer}
-use Rattle.satisfaction.specs.Check.{circuitCheck}
 use Rattle.record.specs.Demand3.{IsAccepted}
 use Rattle.refusal.specs.declared.outcome.Outcome.the-variants.{Done}
-
--- entries that are residues read back as they were written
-entry-of-bytes : (wires : ℕ) (s : ℕ → ℕ) (w : ℕ) → w < wires → s w < p → entry (entryBytes wires s) w ≡ s w
-entry-of-bytes wires s w l below =
-    ap (λ bytes. entry bytes w) (sym (append-nil (entryBytes wires s)))
-    ∙ entry-written wires s [] w l (omega arith)
-    ∙ mod-eq-of-lt below
 
 -- an unpacked entry is its bit
 pub entry-of-unpacked : (wires : ℕ) (q : List ℕ) (w : ℕ) → w < wires → entry (unpackedBytes wires q) w ≡ bitOfBytes q w
 unfolding unpackedBytes
-entry-of-unpacked wires q w l = entry-of-bytes wires (bitOfBytes q) w l (omega (arith, bit-of-bytes-lt q w))
+entry-of-unpacked wires q w l = entry-written wires (bitOfBytes q) w l (omega (arith, bit-of-bytes-lt q w))
 
-pub length-unpacked : (wires : ℕ) (q : List ℕ) → length (unpackedBytes wires q) ≡ 8 * wires
+length-unpacked : (wires : ℕ) (q : List ℕ) → length (unpackedBytes wires q) ≡ 8 * wires
 unfolding unpackedBytes
 length-unpacked wires q = length-entries wires (bitOfBytes q)
 
 -- unpacked, packed bytes give the values that were packed
-unpacked-packed : (wires : ℕ) (s : ℕ → ℕ) → ((w : ℕ) → w < wires → s w < 2) → unpackedBytes wires (packedBytes wires s) ≡ entryBytes wires s
+pub unpacked-packed : (wires : ℕ) (s : ℕ → ℕ) → ((w : ℕ) → w < wires → s w < 2) → unpackedBytes wires (packedBytes wires s) ≡ entryBytes wires s
 unfolding unpackedBytes
 unpacked-packed wires s bits = entries-congruent wires _ s (packed-bit wires s bits)
 
--- the check of entries that are written modulo p
-check-same : (n : ℕ) (d a b : List ℕ) → length a ≡ length b → entry a ≡ entry b → checkAnswer n d a ≡ checkAnswer n d b
-unfolding checkAnswer circuitCheck
-check-same n d a b long same = rw (long, same)
-
-check-entries : (n : ℕ) (d a : List ℕ) → length a ≡ 8 * wireCount (Record n) → ((w : ℕ) → w < wireCount (Record n) → entry a w < 2)
-    → checkAnswer n d (entryBytes (wireCount (Record n)) (entry a)) ≡ checkAnswer n d a
-check-entries n d a long bits =
-    let wires : ℕ = wireCount (Record n) in
-    check-same n d (entryBytes wires (entry a)) a (length-entries wires (entry a) ∙ sym long)
-    (entries-same wires (entryBytes wires (entry a)) a (length-entries wires (entry a)) long
-    (λ w l. entry-of-bytes wires (entry a) w l (omega (arith, bits w l))))
-
-module _ (n : ℕ) (a out : List ℕ) (done : packAnswer n a (length out) ≡ Done) where
+module _ (n : ℕ) (a out : List ℕ) (bytes : Bytes a) (done : packAnswer n a (length out) ≡ Done) where
   unpack-of-packed : (room : List ℕ) → 8 * wireCount (Record n) ≤ length room
-      → (unpackAnswer n (packs n a out) (length room) ≡ Done)
-      × (unpacks n (packs n a out) room ≡ entryBytes (wireCount (Record n)) (entry a))
+      → (unpackAnswer n (packs n a out) (length room) ≡ Done) × (unpacks n (packs n a out) room ≡ a)
   unpack-of-packed room fits =
       let wires : ℕ = wireCount (Record n) in
       let asked = pack-done n a (length out) .0 done in
@@ -76,10 +51,12 @@ module _ (n : ℕ) (a out : List ℕ) (done : packAnswer n a (length out) ≡ Do
       let whole : unpackAnswer n (packedBytes wires (entry a)) (length room) ≡ Done =
       unpack-done n (packedBytes wires (entry a)) (length room) .1
       (asked .0, (fits, (length-packed wires (entry a), (spare-of-packed wires (entry a) bits, refl)))) in
-      subst
-      (λ q. (unpackAnswer n q (length room) ≡ Done) × (unpacks n q room ≡ entryBytes wires (entry a)))
-      (sym (packs-done n a out done))
-      (whole, unpacks-done n (packedBytes wires (entry a)) room whole ∙ unpacked-packed wires (entry a) bits)
+      subst (λ q. (unpackAnswer n q (length room) ≡ Done) × (unpacks n q room ≡ a)) (sym (packs-done n a out done)) (
+        whole,
+        unpacks-done n (packedBytes wires (entry a)) room whole
+            ∙ unpacked-packed wires (entry a) bits
+            ∙ sym (bytes-of-entries wires (entry a) a bytes (asked .1 .1 .0) (λ w l. refl)),
+      )
 
 module _ (n : ℕ) (q out : List ℕ) (bytes : Bytes q) (done : unpackAnswer n q (length out) ≡ Done) where
   pack-of-unpacked : (room : List ℕ) → packedLength (wireCount (Record n)) ≤ length room
@@ -119,12 +96,7 @@ accepted-packs n d a room accepted fits =
 pub round-trip : RoundTrip
 round-trip =
     record {
-      unpacked = λ n a out room done fits. unpack-of-packed n a out done room fits;
+      unpacked = λ n a out room bytes done fits. unpack-of-packed n a out bytes done room fits;
       packed = λ n q out room bytes done fits. pack-of-unpacked n q out bytes done room fits;
       accepted = accepted-packs;
-      checked =
-          λ n d a out room done fits.
-          let asked = pack-done n a (length out) .0 done in
-          ap (checkAnswer n d) (unpack-of-packed n a out done room fits .1)
-          ∙ check-entries n d a (asked .1 .1 .0) (asked .1 .1 .1);
     }

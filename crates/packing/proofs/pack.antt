@@ -1,2 +1,1 @@
 pub mod EntriesAsked
-pub mod StandingEntries

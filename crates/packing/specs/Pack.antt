@@ -1,13 +1,13 @@
--- The answer of `pack` and the bytes that it leaves (document 02, request 1).
+-- The answer of `pack` and the bytes that it leaves (document 02, requests 1 and 6).
 use mathlib.Core.Bool.{cond, not}
 use mathlib.Core.List.{List, _++_}
 use Prim.Native.Nat.{ℕ, _*_}
 use lib.Dec.{eqb, ltb}
 use lib.ListN.{drop, length}
 use Rattle.assignment.specs.Assignment.{entry}
+use Rattle.assignment.specs.BelowPrime.{belowPrimeAnswer, limitAnswer}
 use Rattle.circuit.specs.Wires.{wireCount}
 use Rattle.circuit.specs.declared.circuits.Circuit.the-variants.{Record}
-use Rattle.encoding.specs.Lowest.{lowestFailing}
 use Rattle.encoding.specs.Packed.{packedBytes, packedLength}
 use Rattle.refusal.specs.Refusals.{left}
 use Rattle.refusal.specs.declared.outcome.Outcome.the-variants.{Done, Refused}
@@ -15,10 +15,9 @@ use Rattle.refusal.specs.declared.outcome.Outcome.{Outcome}
 use Rattle.refusal.specs.declared.outcome.Refusal.the-variants.{BufferTooShort, EntryNotBit, LengthAboveLimit, WrongLength}
 use Rattle.sm3.specs.Message.{mostBits}
 
--- "10, in packing only, an entry reads neither 0 nor 1 (lowest wire returned)": of the m wires from k on
-unfoldable pub bitsAnswer : List ℕ → ℕ → ℕ → Outcome
-bitsAnswer assignment k m =
-    lowestFailing (λ w. ltb (entry assignment w) 2) (λ w. Refused (EntryNotBit (record { 0 = w }))) Done k m
+-- "10, in packing only, an entry reads neither 0 nor 1 (lowest wire returned)": of the first n entries
+abbrev pub bitsAnswer : ℕ → List ℕ → Outcome
+bitsAnswer n assignment = limitAnswer EntryNotBit 2 n assignment Done
 
 -- for records of n bits, an assignment and a buffer of `room` bytes
 unfoldable pub packAnswer : ℕ → List ℕ → ℕ → Outcome
@@ -29,7 +28,9 @@ packAnswer n assignment room =
     (cond (ltb room (packedLength (wireCount (Record n)))) (Refused BufferTooShort)
     -- "6. An assignment of 8-byte entries handed over to be read is not exactly 8 × wires bytes."
     (cond (not (eqb (length assignment) (8 * wireCount (Record n)))) (Refused WrongLength)
-    (bitsAnswer assignment 0 (wireCount (Record n)))))
+    -- request 6: "20, an entry of p or more (lowest wire returned), directly after 6 and so before 7 and 10"
+    (belowPrimeAnswer (wireCount (Record n)) assignment
+    (bitsAnswer (wireCount (Record n)) assignment))))
 
 -- what is left in the buffer: the packed bytes and the bytes past them, which "keep their value"
 abbrev pub packLeft : Outcome → ℕ → List ℕ → List ℕ → List ℕ

@@ -5,7 +5,6 @@ use mathlib.Core.Logic.{_↔_}
 use mathlib.Core.Path.{_≡_}
 use Prim.Native.Nat.{ℕ, _≤_}
 use lib.Dec.{ltb}
-use lib.ListN.{length}
 use Rattle.circuit.specs.Wires.{wireCount}
 use Rattle.circuit.specs.declared.circuits.Circuit.the-variants.{Record}
 use Rattle.encoding.specs.Bits.{bitOfBytes}
@@ -31,7 +30,7 @@ packedCheckAnswer n digest packed =
 -- demand 3 of packed bytes: they are accepted exactly when they are the packed wires of some record that has this digest
 abbrev pub PackedExact : Type 0
 PackedExact =
-    (n : ℕ) (d p : List ℕ) → n ≤ mostBits → length d ≡ 32 → Bytes d → Bytes p
+    (n : ℕ) (d p : List ℕ) → n ≤ mostBits → Bytes d → Bytes p
     → (packedCheckAnswer n d p ≡ Done)
     ↔ ((r : List ℕ) × IsRecord n r × (digestBytes n r ≡ d)
     × (p ≡ packedBytes (wireCount (Record n)) (wireOf n (bitOfBytes r))))

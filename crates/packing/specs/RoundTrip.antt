@@ -1,17 +1,15 @@
--- Packing and unpacking undo each other, and whatever is accepted can be packed (document 02, request 1). All is said of raw
+-- Packing and unpacking undo each other, and whatever is accepted can be packed (document 02, requests 1 and 6). All is said of raw
 -- bytes, as they are lent, and of the definitions that the contracts of `pack`, `unpack` and `check` cite.
 use mathlib.Core.List.{List}
 use mathlib.Core.Path.{_≡_}
 use Prim.Native.Nat.{ℕ, _*_, _≤_}
 use lib.ListN.{length, take}
-use Rattle.assignment.specs.Assignment.{entry, entryBytes}
 use Rattle.circuit.specs.Wires.{wireCount}
 use Rattle.circuit.specs.declared.circuits.Circuit.the-variants.{Record}
 use Rattle.encoding.specs.Bytes.{Bytes}
 use Rattle.encoding.specs.Packed.{packedLength}
 use Rattle.packing.specs.Pack.{packAnswer, packLeft}
 use Rattle.packing.specs.Unpack.{unpackAnswer, unpackLeft}
-use Rattle.record.specs.Check.{checkAnswer}
 use Rattle.record.specs.Demand3.{IsAccepted}
 use Rattle.refusal.specs.declared.outcome.Outcome.the-variants.{Done}
 
@@ -23,10 +21,9 @@ abbrev pub unpacks : ℕ → List ℕ → List ℕ → List ℕ
 unpacks n p out = take (8 * wireCount (Record n)) (unpackLeft (unpackAnswer n p (length out)) n p out)
 
 pub record RoundTrip : Type 0 where
-  -- "Unpacking what was packed returns each entry modulo p"
-  pub unpacked : (n : ℕ) (a out room : List ℕ) → packAnswer n a (length out) ≡ Done → 8 * wireCount (Record n) ≤ length room
-      → (unpackAnswer n (packs n a out) (length room) ≡ Done)
-      × (unpacks n (packs n a out) room ≡ entryBytes (wireCount (Record n)) (entry a))
+  -- "Unpacking what was packed returns each entry modulo p": none is p or more, so it returns each byte
+  pub unpacked : (n : ℕ) (a out room : List ℕ) → Bytes a → packAnswer n a (length out) ≡ Done → 8 * wireCount (Record n) ≤ length room
+      → (unpackAnswer n (packs n a out) (length room) ≡ Done) × (unpacks n (packs n a out) room ≡ a)
   -- "packing what was unpacked returns the bytes"
   pub packed : (n : ℕ) (p out room : List ℕ) → Bytes p → unpackAnswer n p (length out) ≡ Done
       → packedLength (wireCount (Record n)) ≤ length room
@@ -34,6 +31,3 @@ pub record RoundTrip : Type 0 where
   -- "Every accepted assignment packs."
   pub accepted : (n : ℕ) (d a : List ℕ) (room : ℕ) → IsAccepted n d a → packedLength (wireCount (Record n)) ≤ room
       → packAnswer n a room ≡ Done
-  -- the check of what was packed and unpacked is the check of its entries
-  pub checked : (n : ℕ) (d a out room : List ℕ) → packAnswer n a (length out) ≡ Done → 8 * wireCount (Record n) ≤ length room
-      → checkAnswer n d (unpacks n (packs n a out) room) ≡ checkAnswer n d a

@@ -1,11 +1,12 @@
--- Records of whole bytes: the answers of request 1 for records of L bytes, in their own unit, are what the definitions give for 8 L
--- bits (document 02, request 2).
+-- Records of whole bytes: the answers of requests 1 and 6 for records of L bytes, in their own unit, are what the definitions give for
+-- 8 L bits (document 02, request 2).
 use mathlib.Core.Bool.{cond, not}
 use mathlib.Core.List.{List}
 use mathlib.Core.Path.{_≡_}
 use Prim.Native.Nat.{ℕ, _*_}
 use lib.Dec.{eqb, ltb}
 use lib.ListN.{length}
+use Rattle.assignment.specs.BelowPrime.{belowPrimeAnswer}
 use Rattle.circuit.specs.WholeBytes.{wiresOfBytes}
 use Rattle.encoding.specs.Packed.{packedLength}
 use Rattle.packing.specs.Pack.{bitsAnswer, packAnswer}
@@ -18,13 +19,13 @@ use Rattle.refusal.specs.declared.outcome.Refusal.the-variants.{BufferTooShort,
 use Rattle.sm3.specs.WholeBytes.{mostBytes}
 
 pub record WholeBytes : Type 0 where
-  -- "2. The record length is above 1,015.", 4, 6 and 10
+  -- "2. The record length is above 1,015.", 4, 6, 20 and 10
   pub pack : (L : ℕ) (a : List ℕ) (room : ℕ)
       → packAnswer (8 * L) a room
       ≡ cond (ltb mostBytes L) (Refused LengthAboveLimit)
       (cond (ltb room (packedLength (wiresOfBytes L))) (Refused BufferTooShort)
       (cond (not (eqb (length a) (8 * wiresOfBytes L))) (Refused WrongLength)
-      (bitsAnswer a 0 (wiresOfBytes L))))
+      (belowPrimeAnswer (wiresOfBytes L) a (bitsAnswer (wiresOfBytes L) a))))
   -- 2, 4, 11 and 12
   pub unpack : (L : ℕ) (p : List ℕ) (room : ℕ)
       → unpackAnswer (8 * L) p room

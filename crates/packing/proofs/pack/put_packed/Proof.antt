@@ -12,7 +12,7 @@ use Rattle.packing.proofs.pack.put_packed.Tie as tie
 put-words-requires : tie.Need-put-words-requires
 put-words-requires c κs =
     let pre = c .before .before .before .pre in
-    (omega arith, omega arith, λ w l. pre .3 w (omega arith), pre .4)
+    (omega arith, omega arith, λ w l. pre .3 w (omega arith))
 
 sub-out : tie.Need-sub-out
 sub-out c = search needs
