@@ -1,7 +1,8 @@
-//! The check of an assignment against a digest: refusals 2, 5, 6, 7, 8, 9,
-//! in this order, straight over the rows.
+//! The check of an assignment against a digest: refusals 2, 5, 6, 20, 7, 8,
+//! 9, in this order, straight over the rows.
 
 use crate::bits::bit;
+use crate::entries;
 use crate::field;
 use crate::forms::{Row, RowNumber, RowTable, Term};
 use crate::length::{right_assignment, Length};
@@ -48,8 +49,8 @@ fn check_digest_wires(entries: &[u64], digest: &[u8]) -> Result<(), Refusal> {
     Ok(())
 }
 
-/// Refusals 5 to 9 for a length in range, with the rows of that length at
-/// hand. It saves time where many assignments of one length are judged.
+/// Refusals 5, 6, 20, 7, 8, 9 for a length in range, with the rows of that
+/// length at hand. It saves time where many assignments of one length are judged.
 pub fn check_with(
     table: &RowTable,
     length: Length,
@@ -59,7 +60,7 @@ pub fn check_with(
     check_circuit(table, length.wires(), assignment, digest)
 }
 
-/// Refusals 5 to 9 for any circuit, by its rows and by how many wires it has.
+/// The same for any circuit, by its rows and by how many wires it has.
 pub(crate) fn check_circuit(
     table: &RowTable,
     wires: usize,
@@ -67,7 +68,7 @@ pub(crate) fn check_circuit(
     digest: &[u8],
 ) -> Result<(), Refusal> {
     check_sizes(wires, assignment, digest)?;
-    let entries = field::read_entries(assignment);
+    let entries = entries::read(assignment)?;
     check_digest_wires(&entries, digest)?;
     match lowest_unsatisfied(table, &entries) {
         Some(number) => Err(Refusal::Unsatisfied(number)),

@@ -1,11 +1,11 @@
 //! An outside judge for the paper "SM3 record rows over the prime 2^61 - 1".
 //!
-//! Everything here was written from that paper alone and from the first five of
+//! Everything here was written from that paper alone and from the first six of
 //! its change requests, "Packed assignments", "Lengths in bits", "Passage
-//! records", "Sealing in one pass", which asks for no other answer, and "Axles
-//! between two bounds"; but the programs `steps`, `axle_rows` and `axle_steps`
-//! have their formats from docs/STEPS.md. Sentences of the papers are quoted in
-//! the comments beside the code that follows them.
+//! records", "Sealing in one pass", which asks for no other answer, "Axles
+//! between two bounds" and "Entries below the prime"; but the programs `steps`,
+//! `axle_rows` and `axle_steps` have their formats from docs/STEPS.md. Sentences
+//! of the papers are quoted in the comments beside the code that follows them.
 //!
 //! * `sm3`: the hash, and every word it computes on the way ("SM3 as used").
 //! * `length`: lengths in range and the counts of blocks, wires and rows.
@@ -14,6 +14,7 @@
 //!   "The words of demand 3").
 //! * `forms`: the row forms ("Rows", its list of equations).
 //! * `rows`: all rows of a length, by walking the blocks in wire order.
+//! * `entries`: the entries of an assignment, each below p.
 //! * `check`: the check of an assignment against a digest.
 //! * `operations`: digest, row and produce on lent buffers.
 //! * `packing`: pack and unpack on lent buffers.
@@ -23,7 +24,7 @@
 //! * `passage`: the lines of the passage product: read, write, seal, check.
 //! * `axles`: the circuit of axles between two bounds: its wires, rows, produce
 //!   and check, and its two programs.
-//! * `refusal`: the nineteen refusals. `field`: numbers modulo p. `bits`: the
+//! * `refusal`: the twenty refusals. `field`: numbers modulo p. `bits`: the
 //!   bits of bytes.
 
 #![forbid(unsafe_code)]
@@ -31,6 +32,7 @@
 pub mod axles;
 pub mod bits;
 pub mod check;
+pub mod entries;
 pub mod field;
 pub mod forms;
 pub mod layout;

@@ -4,18 +4,18 @@
 //! buffer past its result keep their value.
 
 use crate::bits;
-use crate::field;
+use crate::entries;
 use crate::forms::Wire;
 use crate::length::Length;
 use crate::operations::long_enough;
 use crate::refusal::Refusal;
 
-/// An assignment into its packed bytes: refusals 2, 4, 6, 10.
+/// An assignment into its packed bytes: refusals 2, 4, 6, 20, 10.
 pub fn pack(length: u64, assignment: &[u8], buffer: &mut [u8]) -> Result<(), Refusal> {
     let length = Length::new(length)?;
     long_enough(buffer, length.packed_bytes())?;
     length.right_assignment(assignment)?;
-    let packed = packed(&field::read_entries(assignment))?;
+    let packed = packed(&entries::read(assignment)?)?;
     buffer[..packed.len()].copy_from_slice(&packed);
     Ok(())
 }

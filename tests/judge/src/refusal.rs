@@ -1,7 +1,8 @@
 //! "Refusals in checking order", those that packing adds, the two that lengths
-//! in bits add, the three of passage records, and the two of axles between
-//! bounds. Each has a number. Three carry more: 9 "the lowest row that is not
-//! satisfied", 10 the "lowest wire", and 16 the "lowest byte".
+//! in bits add, the three of passage records, the two of axles between bounds,
+//! and the one of entries below the prime. Each has a number. Four carry more: 9
+//! "the lowest row that is not satisfied", 10 and 20 the "lowest wire", and 16
+//! the "lowest byte".
 
 use crate::forms::{RowNumber, Wire};
 use crate::passage::line::Place;
@@ -46,6 +47,8 @@ pub enum Refusal {
     Bounds,
     /// 19. The record's axles are no two digits, or not within the bounds.
     OutsideBand,
+    /// 20. An entry of p or more; this is the lowest one's wire.
+    NotBelowPrime(Wire),
 }
 
 impl Refusal {
@@ -71,6 +74,7 @@ impl Refusal {
             Refusal::LaneOrAxles => 17,
             Refusal::Bounds => 18,
             Refusal::OutsideBand => 19,
+            Refusal::NotBelowPrime(_) => 20,
         }
     }
 }

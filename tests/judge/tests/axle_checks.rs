@@ -10,7 +10,7 @@ use judge::refusal::Refusal;
 use support::axles::{
     bits_of, bounds, digest, line, produced, unsatisfied, with_bytes, ASSIGNMENT,
 };
-use support::set_entry;
+use support::{not_below_prime, set_entry, FROM_PRIME};
 
 #[test]
 fn what_was_produced_is_accepted() {
@@ -60,7 +60,7 @@ fn damaged_appended_wires_by_hand() {
     assert_eq!(changed(45_572, 0), unsatisfied(65_164));
     // No bit: its own bit row comes before the sum row.
     assert_eq!(changed(45_569, 2), unsatisfied(65_160));
-    assert_eq!(changed(45_572, u64::MAX), unsatisfied(65_163));
+    assert_eq!(changed(45_572, P - 2), unsatisfied(65_163));
     // 9 - 3 is 0110.
     assert_eq!(changed(45_573, 1), unsatisfied(65_169));
     assert_eq!(changed(45_574, P - 1), unsatisfied(65_166));
@@ -71,13 +71,29 @@ fn damaged_appended_wires_by_hand() {
     assert_eq!(changed(45_590, 1), unsatisfied(65_185));
     assert_eq!(changed(45_584, 1 << 60), unsatisfied(65_178));
     assert_eq!(changed(45_590, 2), unsatisfied(65_184));
-    // p and p + 1 read as 0 and 1.
-    assert_eq!(changed(45_590, P), Ok(()));
-    assert_eq!(changed(45_583, P + 1), Ok(()));
-    assert_eq!(changed(45_583, P), unsatisfied(65_177));
+    // p and p + 1 are not 0 and 1 any more.
+    assert_eq!(changed(45_590, P), not_below_prime(45_590));
+    assert_eq!(changed(45_583, P + 1), not_below_prime(45_583));
     // A digit byte's own wires fail where the record has them.
     assert_eq!(changed(649, 2), unsatisfied(392));
     assert_eq!(changed(664, 2), unsatisfied(407));
+}
+
+#[test]
+fn an_entry_of_p_or_more_on_any_wire_of_the_circuit() {
+    let (record, table) = (line(3), rows::all(bounds(2, 5)));
+    let mut assignment = produced(2, 5, &record).unwrap();
+    // From the last appended wire down: each is the lowest in its turn.
+    for wire in (45_569..45_591)
+        .rev()
+        .chain([45_568, 664, 649, 257, 256, 0])
+    {
+        for value in FROM_PRIME {
+            set_entry(&mut assignment, wire, value);
+            let answer = check_with(&table, &digest(&record), &assignment);
+            assert_eq!(answer, not_below_prime(wire));
+        }
+    }
 }
 
 /// The assignment of these two bytes, whatever they are, with these appended

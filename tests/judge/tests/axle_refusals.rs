@@ -4,9 +4,10 @@
 mod support;
 
 use judge::axles::{check, produce, row, Bounds};
+use judge::field::P;
 use judge::refusal::Refusal;
 use support::axles::{all_bounds, digest, line, produced, with_bytes, ASSIGNMENT};
-use support::{set_entry, untouched, OLD};
+use support::{not_below_prime, set_entry, untouched, OLD};
 
 #[test]
 fn refusal_18() {
@@ -125,7 +126,7 @@ fn the_order_of_row_is_18_3_4() {
 }
 
 #[test]
-fn the_order_of_the_check_is_18_5_6_7_8_9() {
+fn the_order_of_the_check_is_18_5_6_20_7_8_9() {
     let record = line(3);
     let mut assignment = produced(2, 5, &record).unwrap();
     let mut digest = digest(&record);
@@ -136,6 +137,10 @@ fn the_order_of_the_check_is_18_5_6_7_8_9() {
     assert_eq!(number(check(2, 5, &digest, &assignment)), 8);
     set_entry(&mut assignment, 0, 0);
     assert_eq!(number(check(2, 5, &digest, &assignment)), 7);
+    set_entry(&mut assignment, 45_589, P);
+    let answer = check(2, 5, &digest, &assignment);
+    assert_eq!(answer, not_below_prime(45_589));
+    set_entry(&mut assignment, 3, u64::MAX);
     let short = &assignment[..ASSIGNMENT - 8];
     assert_eq!(number(check(2, 5, &digest, short)), 6);
     assert_eq!(number(check(2, 5, &digest[1..], short)), 5);

@@ -10,7 +10,9 @@ use judge::length::Length;
 use judge::record::Record;
 use judge::refusal::Refusal;
 use judge::{layout, rows, sm3};
-use support::{entry, holds, length, lowest_with_wire, record, set_entry, LENGTHS};
+use support::{
+    entry, holds, length, lowest_with_wire, not_below_prime, record, set_entry, FROM_PRIME, LENGTHS,
+};
 
 /// A record's assignment and digest with the rows of its length.
 struct Case {
@@ -62,7 +64,7 @@ fn layouts_are_accepted() {
 #[test]
 fn refusals_come_in_order() {
     let good = case(8);
-    let (long, short) = (vec![0; good.assignment.len() + 8], &good.assignment[8..]);
+    let (long, short) = (vec![0xff; good.assignment.len() + 8], &good.assignment[8..]);
     // Everything wrong at once, then one thing mended after another.
     assert_eq!(check(8128, &long, &[0; 31]), Err(Refusal::Length));
     assert_eq!(check(8, &long, &[0; 31]), Err(Refusal::DigestBytes));
@@ -71,9 +73,15 @@ fn refusals_come_in_order() {
     assert_eq!(check(8, &long, &[1; 32]), Err(Refusal::AssignmentBytes));
     assert_eq!(check(8, short, &[1; 32]), Err(Refusal::AssignmentBytes));
     assert_eq!(check(8, &[], &[1; 32]), Err(Refusal::AssignmentBytes));
-    let mut assignment = vec![0xff; good.assignment.len()];
+    let mut assignment = vec![0x02; good.assignment.len()];
+    // The last wire's entry, then one before it: 20 comes before all of 7 to 9.
+    for wire in [good.length.wires() - 1, 700] {
+        set_entry(&mut assignment, wire, P);
+        assert_eq!(check(8, &assignment, &[1; 32]), not_below_prime(wire));
+    }
+    let mut assignment = vec![0x02; good.assignment.len()];
     assert_eq!(check(8, &assignment, &[1; 32]), Err(Refusal::WireZero));
-    set_entry(&mut assignment, 0, P + 1);
+    set_entry(&mut assignment, 0, 1);
     assert_eq!(check(8, &assignment, &[1; 32]), Err(Refusal::DigestWire));
     assignment[8..8 * 257].copy_from_slice(&good.assignment[8..8 * 257]);
     assert_eq!(check(8, &assignment, &[1; 32]), Err(Refusal::DigestWire));
@@ -95,22 +103,67 @@ fn an_assignment_of_another_block_count_is_refusal_6() {
 }
 
 #[test]
-fn entries_are_read_modulo_p() {
+fn entries_are_not_read_modulo_p() {
     let mut good = case(27);
-    for wire in 0..good.length.wires() {
+    // From the last wire down, so that the wire shifted last is the lowest; a
+    // wire that 8 divides keeps its entry.
+    for wire in (0..good.length.wires()).rev() {
         let value = entry(&good.assignment, wire);
         set_entry(&mut good.assignment, wire, value + P * (wire as u64 % 8));
+        if wire % 2_000 == 1 {
+            assert_eq!(good.check(), not_below_prime(wire));
+        }
     }
-    assert_eq!(good.check(), Ok(()));
-    // 2^64 - 1 reads as 7, which is no bit.
-    assert_eq!(good.with(600, u64::MAX), unsatisfied(256 + 600 - 513));
+    assert_eq!(good.check(), not_below_prime(1));
+}
+
+#[test]
+fn one_entry_of_p_or_more_on_any_wire() {
+    let mut good = case(453);
+    let last = good.length.wires() - 1;
+    // Wire 0, the digest, the start words, a record bit, a padding bit, q, P1(q),
+    // W, W', all of a round of the second block, and the result.
+    let wires = [
+        0, 1, 256, 257, 512, 513, 965, 966, 1_025, 1_057, 1_089, 6_017,
+    ];
+    let round = (23_041 + 7_552..).take(230);
+    for wire in wires.into_iter().chain(round).chain([last - 255, last]) {
+        for value in FROM_PRIME {
+            assert_eq!(good.with(wire, value), not_below_prime(wire));
+        }
+        assert_ne!(good.with(wire, P - 1), not_below_prime(wire));
+    }
+    // p - 1 is below p, and the wire's own bit row refuses it.
+    assert_eq!(good.with(513, P - 1), unsatisfied(256));
+}
+
+#[test]
+fn of_several_entries_of_p_or_more_the_lowest_wire_is_returned() {
+    let mut good = case(448);
+    set_entry(&mut good.assignment, 44_000, P);
+    for value in [P - 1, P, P + 5, u64::MAX] {
+        assert_eq!(good.with(44_001, value), not_below_prime(44_000));
+    }
+    // A greater one on a higher wire, and a smaller one.
+    set_entry(&mut good.assignment, 30_000, u64::MAX);
+    assert_eq!(good.check(), not_below_prime(30_000));
+    set_entry(&mut good.assignment, 400, P + 1);
+    assert_eq!(good.check(), not_below_prime(400));
+    // With wire 0 and a digest wire wrong besides: 7 and 8 come later.
+    set_entry(&mut good.assignment, 256, 2);
+    set_entry(&mut good.assignment, 0, P - 1);
+    assert_eq!(good.check(), not_below_prime(400));
 }
 
 #[test]
 fn wire_0_and_digest_wires() {
     let mut good = case(15);
-    for value in [0, 2, P, u64::MAX] {
+    for value in [0, 2, 1 << 60, P - 1] {
         assert_eq!(good.with(0, value), Err(Refusal::WireZero));
+    }
+    // p + 1 is not 1 any more.
+    for value in FROM_PRIME {
+        assert_eq!(good.with(0, value), not_below_prime(0));
     }
     for wire in 1..=256 {
         let value = entry(&good.assignment, wire);

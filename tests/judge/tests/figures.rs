@@ -2,12 +2,14 @@
 
 mod support;
 
-use judge::field::{multiply, read_entry, P};
+use judge::check::check;
+use judge::field::{multiply, P};
 use judge::forms::RowNumber;
 use judge::length::Length;
+use judge::packing::pack;
 use judge::refusal::Refusal;
-use judge::{operations, rows, sm3};
-use support::{length, plain};
+use judge::{entries, operations, rows, sm3};
+use support::{length, not_below_prime, plain, set_entry};
 
 #[test]
 fn blocks_of_lengths() {
@@ -51,9 +53,20 @@ fn wires_and_rows_of_lengths() {
 fn numbers_modulo_p() {
     assert_eq!(P, (1 << 61) - 1);
     assert_eq!(multiply(1 << 60, 2), 1);
-    assert_eq!(read_entry(P.to_le_bytes()), 0);
-    assert_eq!(read_entry(u64::MAX.to_le_bytes()), 7);
-    assert_eq!(read_entry([1, 2, 0, 0, 0, 0, 0, 0]), 513);
+}
+
+#[test]
+fn entries_p_and_2_64_minus_1_stop_reading_as_0_and_7() {
+    for value in [P, u64::MAX] {
+        assert_eq!(entries::read(&value.to_le_bytes()), not_below_prime(0));
+        let mut assignment = vec![0; length(0).assignment_bytes()];
+        set_entry(&mut assignment, 513, value);
+        let packed = &mut [0; 2_881];
+        assert_eq!(check(0, &assignment, &[0; 32]), not_below_prime(513));
+        assert_eq!(pack(0, &assignment, packed), not_below_prime(513));
+    }
+    let bytes = [[1, 2, 0, 0, 0, 0, 0, 0], (P - 1).to_le_bytes()];
+    assert_eq!(entries::read(&bytes.concat()), Ok(vec![513, P - 1]));
 }
 
 #[test]

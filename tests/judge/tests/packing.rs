@@ -10,7 +10,9 @@ use judge::packed::answer;
 use judge::packing::{pack, unpack};
 use judge::refusal::Refusal;
 use judge::{layout, sm3};
-use support::{bytes, length, record, run, set_entry, untouched, LENGTHS, OLD};
+use support::{
+    bytes, length, not_below_prime, record, run, set_entry, untouched, FROM_PRIME, LENGTHS, OLD,
+};
 
 /// At length 0 there are 23,041 wires: 184,328 bytes of entries, and 2,881
 /// packed bytes, of which the last has one wire.
@@ -30,6 +32,10 @@ fn with(entries: &[(usize, u64)]) -> Vec<u8> {
 fn packed(bits: u64, assignment: &[u8]) -> Result<Vec<u8>, Refusal> {
     let mut buffer = vec![OLD; length(bits).packed_bytes()];
     pack(bits, assignment, &mut buffer).map(|()| buffer)
+}
+
+fn no_bit<T>(wire: usize) -> Result<T, Refusal> {
+    Err(Refusal::NoBit(Wire(wire as u32)))
 }
 
 fn unpacked(bits: u64, packed: &[u8]) -> Result<Vec<u8>, Refusal> {
@@ -72,24 +78,37 @@ fn a_wire_goes_to_its_byte_and_bit() {
 }
 
 #[test]
-fn entries_are_read_modulo_p() {
-    let ones = with(&[(1, P + 1), (8, 7 * P + 1), (9, P), (10, 8 * P)]);
-    let bytes = packed(0, &ones).unwrap();
-    assert_eq!(bytes[..2], [0x40, 0x80]);
-    assert!(bytes[2..].iter().all(|&byte| byte == 0));
-    assert_eq!(unpacked(0, &bytes), Ok(with(&[(1, 1), (8, 1)])));
+fn entries_are_not_read_modulo_p() {
+    let shifted = [(1, P + 1), (8, 7 * P + 1), (9, P), (10, 8 * P)];
+    for lowest in 0..shifted.len() {
+        let entries = with(&shifted[lowest..]);
+        assert_eq!(packed(0, &entries), not_below_prime(shifted[lowest].0));
+    }
+    for value in FROM_PRIME {
+        for wire in [0, 31, 32, 33, 64, 23_040] {
+            assert_eq!(packed(0, &with(&[(wire, value)])), not_below_prime(wire));
+        }
+    }
+}
+
+#[test]
+fn an_entry_of_p_or_more_comes_before_one_that_is_no_bit() {
+    // The lowest of p or more over all entries, whatever stands below it.
+    let entries = [(0, 2), (3, P - 1), (4_000, u64::MAX), (5_000, P)];
+    assert_eq!(packed(0, &with(&entries)), not_below_prime(4_000));
+    assert_eq!(packed(0, &with(&entries[..2])), no_bit(0));
+    assert_eq!(packed(0, &with(&entries[1..2])), no_bit(3));
 }
 
 #[test]
 fn the_lowest_entry_that_is_no_bit_is_returned() {
-    for value in [2, P - 1, P + 2, 1 << 60, 1 << 63, u64::MAX] {
+    for value in [2, 0x100, 1 << 32, 1 << 60, P - 2, P - 1] {
         for wire in [0, 31, 32, 33, 64, 23_040] {
-            let refusal = Refusal::NoBit(Wire(wire as u32));
-            assert_eq!(packed(0, &with(&[(wire, value)])), Err(refusal));
+            assert_eq!(packed(0, &with(&[(wire, value)])), no_bit(wire));
         }
     }
-    let three = with(&[(23_040, 2), (4_000, 3), (70, 1), (5_000, P + 2)]);
-    assert_eq!(packed(0, &three), Err(Refusal::NoBit(Wire(4_000))));
+    let three = with(&[(23_040, 2), (4_000, 3), (70, 1), (5_000, P - 2)]);
+    assert_eq!(packed(0, &three), no_bit(4_000));
 }
 
 #[test]
@@ -128,21 +147,24 @@ fn bytes_past_the_result_stay() {
 }
 
 #[test]
-fn pack_refuses_in_the_order_2_4_6_10() {
+fn pack_refuses_in_the_order_2_4_6_20_10() {
     let (mut short, mut exact) = (vec![OLD; PACKED - 1], vec![OLD; PACKED]);
-    let (wrong, two) = (vec![2; ENTRIES - 1], with(&[(9, 2)]));
+    let (wrong, two) = (vec![0xff; ENTRIES - 1], with(&[(9, 2)]));
+    let both = with(&[(9, 2), (23_040, P)]);
     for length in [8128, 1 << 32, (1 << 61) + 3, 1 << 63, u64::MAX] {
         assert_eq!(pack(length, &wrong, &mut short), Err(Refusal::Length));
     }
     assert_eq!(pack(0, &wrong, &mut short), Err(Refusal::Buffer));
-    assert_eq!(pack(0, &two, &mut short), Err(Refusal::Buffer));
+    assert_eq!(pack(0, &both, &mut short), Err(Refusal::Buffer));
     assert_eq!(pack(448, &two, &mut exact), Err(Refusal::Buffer));
     for size in [0, ENTRIES - 8, ENTRIES - 1, ENTRIES + 1, ENTRIES + 8] {
-        let wrong = vec![2; size];
-        assert_eq!(pack(0, &wrong, &mut exact), Err(Refusal::AssignmentBytes));
+        for byte in [0x02, 0xff] {
+            let wrong = vec![byte; size];
+            assert_eq!(pack(0, &wrong, &mut exact), Err(Refusal::AssignmentBytes));
+        }
     }
-    let no_bit = Err(Refusal::NoBit(Wire(9)));
-    assert_eq!(pack(0, &two, &mut exact), no_bit);
+    assert_eq!(pack(0, &both, &mut exact), not_below_prime(23_040));
+    assert_eq!(pack(0, &two, &mut exact), no_bit(9));
     assert!(untouched(&short) && untouched(&exact));
 }
 

@@ -7,7 +7,7 @@ use judge::operations;
 use judge::passage::line::Place;
 use judge::passage::{check, read, seal, write, Numbers, Passage};
 use judge::refusal::Refusal;
-use support::{bytes, entry, set_entry, untouched, OLD};
+use support::{bytes, entry, not_below_prime, set_entry, untouched, FROM_PRIME, OLD};
 
 /// A right line, its fields and its digest, which is OpenSSL's.
 const LINE: &[u8; 63] = b"042,1700000000,3,05,AB12345---,0123456789abcdef0123456789abcdef";
@@ -381,15 +381,15 @@ fn a_refused_seal_changes_nothing() {
 }
 
 #[test]
-fn check_refuses_in_the_order_5_to_9() {
+fn check_refuses_in_the_order_5_6_20_7_8_9() {
     let (mut digest, mut assignment) = ([0; 32], vec![0; ASSIGNMENT]);
     assert_eq!(seal(LINE, &mut digest, &mut assignment), Ok(()));
-    let short = &assignment[1..];
+    let short = &[0xff; ASSIGNMENT - 1];
     for size in [0, 31, 33] {
         assert_eq!(check(&vec![0; size], short), Err(Refusal::DigestBytes));
     }
     for size in [0, 184_328, ASSIGNMENT - 8, ASSIGNMENT - 1, ASSIGNMENT + 1] {
-        let other = vec![0; size];
+        let other = vec![0xff; size];
         assert_eq!(check(&digest, &other), Err(Refusal::AssignmentBytes));
     }
     // Wire 513 is the line's first bit; its row is the first of block 0.
@@ -400,6 +400,13 @@ fn check_refuses_in_the_order_5_to_9() {
     assert_eq!(check(&digest, &damaged), Err(Refusal::DigestWire));
     set_entry(&mut damaged, 0, 0);
     assert_eq!(check(&digest, &damaged), Err(Refusal::WireZero));
+    // The last wire, then one before it, and a digest wire.
+    for wire in [45_568, 513, 256] {
+        for value in FROM_PRIME {
+            set_entry(&mut damaged, wire, value);
+            assert_eq!(check(&digest, &damaged), not_below_prime(wire));
+        }
+    }
 }
 
 #[test]

@@ -40,11 +40,13 @@ impl Trial {
         }
     }
 
-    /// The line of a check: "9" with the row, another refusal alone, 0 for none.
+    /// The line of a check: "9" with the row, "20" with the wire, another
+    /// refusal alone, 0 for none.
     fn line(&mut self, what: &str, answer: Result<(), Refusal>) {
         let answer = match answer {
             Ok(()) => "0".to_string(),
             Err(Refusal::Unsatisfied(row)) => format!("9,{}", row.0),
+            Err(Refusal::NotBelowPrime(wire)) => format!("20,{}", wire.0),
             Err(refusal) => refusal.number().to_string(),
         };
         self.lines.push(format!("{},{what},{answer}", self.bits));
@@ -87,6 +89,9 @@ impl Trial {
         }
         self.changed("carry", carry);
         self.with("two", carry, 2);
+        self.with("below", carry, P - 1);
+        self.with("prime", carry, P);
+        self.with("largest", carry, u64::MAX);
         self.changed("result", end - 1);
     }
 

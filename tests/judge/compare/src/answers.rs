@@ -1,10 +1,11 @@
 //! The answer as one number: the low byte is the refusal's number, 0 for
-//! none. For refusal 9 the row number stands from bit 8 on, for refusal 10 the
-//! wire number, for refusal 16 the number of the byte; for a row the counts of A,
-//! B and C stand at bits 8, 16 and 24; for a passage that is read the lane at
-//! bits 8 to 17, the time at 18 to 51, the class at 52 to 55 and the axles at 56
-//! to 62. Otherwise 0 is above.
+//! none. For refusal 9 the row number stands from bit 8 on, for refusals 10 and
+//! 20 the wire number, for refusal 16 the number of the byte; for a row the counts
+//! of A, B and C stand at bits 8, 16 and 24; for a passage that is read the lane
+//! at bits 8 to 17, the time at 18 to 51, the class at 52 to 55 and the axles at
+//! 56 to 62. Otherwise 0 is above.
 
+use judge::forms::Wire;
 use judge::operations::Counts;
 use judge::passage::line::Place;
 use judge::passage::Numbers;
@@ -13,7 +14,7 @@ use judge::refusal::Refusal;
 fn refusal(refusal: Refusal) -> u64 {
     let number = match refusal {
         Refusal::Unsatisfied(row) => row.0,
-        Refusal::NoBit(wire) => wire.0,
+        Refusal::NoBit(wire) | Refusal::NotBelowPrime(wire) => wire.0,
         Refusal::WrongByte(place) => u32::from(place.0),
         _ => 0,
     };
@@ -37,6 +38,16 @@ pub fn passage(answer: Result<Numbers, Refusal>) -> u64 {
 /// Refusal 16 at that byte.
 pub fn wrong_byte(byte: usize) -> u64 {
     refusal(Refusal::WrongByte(Place(byte as u8)))
+}
+
+/// Refusal 10 at that wire.
+pub fn no_bit(wire: usize) -> u64 {
+    refusal(Refusal::NoBit(Wire(wire as u32)))
+}
+
+/// Refusal 20 at that wire.
+pub fn not_below_prime(wire: usize) -> u64 {
+    refusal(Refusal::NotBelowPrime(Wire(wire as u32)))
 }
 
 /// An answer in words, for the report of a difference.
@@ -81,5 +92,13 @@ mod tests {
         assert_eq!(wrong_byte(62), 0x3e10);
         assert_eq!(passage(Err(Refusal::LineBytes)), 15);
         assert_eq!(passage(Err(Refusal::LaneOrAxles)), 17);
+    }
+
+    #[test]
+    fn a_wire_stands_from_bit_8_on() {
+        assert_eq!(no_bit(0), 0x0a);
+        assert_eq!(not_below_prime(0), 0x14);
+        assert_eq!(not_below_prime(45_590), 0x00b2_1614);
+        assert_eq!(not_below_prime(360_960), 0x0582_0014);
     }
 }

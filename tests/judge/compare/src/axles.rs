@@ -52,7 +52,7 @@ impl Amounts {
             produced: 20,
             byte_pairs: vec![[2, 99]],
             times: 1,
-            appended: 4,
+            appended: 6,
             damaged: 5,
             sampled_rows: 2_000,
             tables: vec![],
@@ -151,6 +151,9 @@ fn claim_jobs(jobs: &mut Vec<Job>, amounts: &Amounts) {
     });
     push(jobs, "appended wires changed", move |calls| {
         damages::each_appended(calls, appended);
+    });
+    push(jobs, "entries of p or more", move |calls| {
+        damages::from_prime(calls, &mut Ground::new(LINE_BITS), times);
     });
     push(jobs, "claims damaged", move |calls| {
         let mut ground = Ground::new(LINE_BITS);

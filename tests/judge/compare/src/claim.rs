@@ -62,6 +62,14 @@ impl Claim {
         self.assignment[8 * wire..8 * wire + 8].copy_from_slice(&value.to_le_bytes());
     }
 
+    /// The same claim with one entry set to a value.
+    pub fn with(&self, wire: usize, value: u64) -> Claim {
+        let mut claim = self.clone();
+        claim.set(wire, value);
+        claim.note += &format!(", wire {wire} set to {value}");
+        claim
+    }
+
     /// The digest wires take the digest's bits.
     pub fn set_digest_wires(&mut self) {
         for number in 0..256 {
@@ -69,13 +77,13 @@ impl Claim {
         }
     }
 
-    /// Adds a random multiple of p to every entry, up to what 8 bytes hold;
-    /// a bit may take 0 to 8 times p.
-    pub fn shift(&mut self, random: &mut Random) {
-        self.shift_one_in(1, random);
+    /// The lowest wire whose entry is p or more, if there is one.
+    pub fn lowest_from_prime(&self) -> Option<usize> {
+        (0..self.wires()).find(|&wire| self.entry(wire) >= P)
     }
 
-    /// The same to one entry in so many.
+    /// Adds a random multiple of p to one entry in so many, up to what 8 bytes
+    /// hold; a bit may take 0 to 8 times p.
     pub fn shift_one_in(&mut self, times: usize, random: &mut Random) {
         for wire in 0..self.wires() {
             if !random.one_in(times) {
@@ -88,14 +96,15 @@ impl Claim {
         self.note += &format!(", one entry in {times} shifted by multiples of p");
     }
 
-    /// Adds the same multiple of p to every entry that can take it.
-    pub fn shift_all(&mut self, times: u64) {
-        for wire in 0..self.wires() {
+    /// Adds the same multiple of p to every entry from that wire on that can
+    /// take it.
+    pub fn shift_from(&mut self, first: usize, times: u64) {
+        for wire in first..self.wires() {
             let value = self.entry(wire);
             if (u64::MAX - value) / P >= times {
                 self.set(wire, value + P * times);
             }
         }
-        self.note += &format!(", every entry shifted by {times} p");
+        self.note += &format!(", entries from wire {first} on shifted by {times} p");
     }
 }

@@ -6,12 +6,13 @@ use judge::field::{self, P};
 use judge::forms::{RowNumber, Term};
 
 use crate::claim::{Claim, Ground};
+use crate::prime;
 use crate::random::Random;
 
 type Damage = fn(&Ground, &mut Claim, &mut Random);
 
 /// All ways with the names by which they are counted.
-pub const WAYS: [(&str, Damage); 11] = [
+pub const WAYS: [(&str, Damage); 12] = [
     ("damages: one entry", one_entry),
     ("damages: one entry, another root of a row", other_root),
     ("damages: two entries", two_entries),
@@ -23,40 +24,36 @@ pub const WAYS: [(&str, Damage); 11] = [
     ("damages: a block of another record", other_block),
     ("damages: wire 0 or a digest wire", digest_entry),
     ("damages: the digest", digest_bytes),
+    ("damages: entries of p or more", from_prime),
 ];
 
 /// Wires of a block, and the wire at which block 0 begins.
 pub const BLOCK: usize = 22_528;
 pub const FIRST: usize = 513;
 
-/// Numbers that read neither 0 nor 1. Some would in their lowest byte or half,
-/// or in 61 bits.
-pub const NO_BITS: [u64; 12] = [
+/// Numbers below p that are neither 0 nor 1. Some would be in their lowest byte
+/// or half, or in 60 bits.
+pub const NO_BITS: [u64; 9] = [
     2,
     3,
     0x100,
+    1 << 32,
     (1 << 32) + 1,
     1 << 60,
+    (1 << 60) + 1,
+    P - 2,
     P - 1,
-    P + 2,
-    2 * P - 1,
-    8 * P + 2,
-    1 << 63,
-    (1 << 63) + 1,
-    u64::MAX,
 ];
 
-/// A value to put in the place of another.
+/// A value below p to put in the place of another.
 fn value(old: u64, random: &mut Random) -> u64 {
     match random.below(10) {
-        0 | 1 => 1 - old % P % 2,
-        2 => random.field(),
-        3 => 1 << 60,
-        4 => P - 1,
-        5 => random.next(),
-        6 => u64::MAX,
-        7 => (old % P + 2) % P,
-        8 => random.pick(&[P, P + 1, 2 * P + 2, 8 * P, 1 << 61, 1 << 63]),
+        0 | 1 => 1 - old % 2,
+        2 | 3 => random.field(),
+        4 => 1 << 60,
+        5 => P - 1,
+        6 => (old + 2) % P,
+        7 => random.pick(&NO_BITS),
         _ => 2 + random.below(6) as u64,
     }
 }
@@ -99,13 +96,13 @@ fn many_entries(_: &Ground, claim: &mut Claim, random: &mut Random) {
     }
 }
 
-/// A run of entries takes one value, or random ones.
+/// A run of entries takes one value, or random ones, below p.
 fn run_of_entries(_: &Ground, claim: &mut Claim, random: &mut Random) {
     let first = some_wire(claim, random);
     let last = (first + random.range(2, 300)).min(claim.wires());
-    let same = random.pick(&[None, Some(0), Some(1), Some(P), Some(1 << 60)]);
+    let same = random.pick(&[None, Some(0), Some(1), Some(P - 1), Some(1 << 60)]);
     for wire in first..last {
-        let new = same.unwrap_or_else(|| random.next());
+        let new = same.unwrap_or_else(|| random.field());
         claim.set(wire, new);
     }
     claim.note += &format!(", wires {first} to {} set to {same:?}", last - 1);
@@ -177,6 +174,10 @@ fn digest_bytes(_: &Ground, claim: &mut Claim, random: &mut Random) {
     }
 }
 
+fn from_prime(_: &Ground, claim: &mut Claim, random: &mut Random) {
+    prime::put(claim, random);
+}
+
 /// The coefficient of a wire in a sum.
 fn coefficient(sum: &[Term], wire: usize) -> u64 {
     let mut terms = sum.iter();
@@ -229,7 +230,7 @@ fn other_root(ground: &Ground, claim: &mut Claim, random: &mut Random) {
         let linear = field::add(crossed, negative(c1));
         let both = field::multiply(negative(linear), inverse(square));
         let old = claim.entry(wire);
-        let new = field::add(both, negative(old % P));
+        let new = field::add(both, negative(old));
         claim.set(wire, new);
         claim.note += &format!(", wire {wire} from {old} to {new}, row {} kept", number.0);
         return;
@@ -253,7 +254,7 @@ fn sum_kept(ground: &Ground, claim: &mut Claim, random: &mut Random) {
         let any = random.field();
         let by = random.pick(&[1, P - 1, 2, 1 << 60, any]);
         let (one_wire, other_wire) = (one.wire.0 as usize, other.wire.0 as usize);
-        let add = |old: u64, times: u64| field::add(old % P, field::multiply(by, times));
+        let add = |old: u64, times: u64| field::add(old, field::multiply(by, times));
         let one_new = add(claim.entry(one_wire), other.coefficient);
         let other_new = add(claim.entry(other_wire), negative(one.coefficient));
         claim.set(one_wire, one_new);

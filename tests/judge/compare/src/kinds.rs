@@ -4,11 +4,13 @@
 //! wire in each block is a place where it could look away.
 
 use judge::field::P;
+use judge::length::Length;
 
 use crate::calls::Calls;
 use crate::claim::{Claim, Ground};
 use crate::damage::{BLOCK, FIRST, NO_BITS};
 use crate::forge::forge;
+use crate::prime;
 use crate::random::Random;
 use crate::sections::check;
 
@@ -84,11 +86,30 @@ fn some_place(block: usize, random: &mut Random) -> Place {
     KINDS[random.below(KINDS.len())].place(block, random)
 }
 
+/// Wires of all kinds: wire 0, those at the ends of the digest, of the start words,
+/// of the record and of its padding, one inside the first two, and so many wires
+/// of every kind of a block, each in any block.
+pub fn wires(length: Length, count: usize, random: &mut Random) -> Vec<usize> {
+    let (bits, blocks) = (length.bits(), length.blocks());
+    let bit = |number: usize| FIRST + BLOCK * (number / 512) + number % 512;
+    let mut wires = vec![0, 1, 256, 257, FIRST - 1];
+    wires.extend([random.range(2, 256), random.range(258, FIRST - 1)]);
+    wires.extend([bit(bits), bit(512 * blocks - 1)]);
+    if bits > 0 {
+        wires.extend([bit(0), bit(bits - 1)]);
+    }
+    for kind in KINDS.iter().flat_map(|kind| vec![kind; count]) {
+        let block = random.below(blocks);
+        wires.push(kind.place(block, random).wire);
+    }
+    wires
+}
+
 type Change = fn(&mut Claim, &Place, &mut Random);
 
-/// All ways to change an entry where it stands: what is computed from it keeps
-/// its entries.
-const CHANGES: [Change; 4] = [turned, turned_and_shifted, no_bit, number_kept];
+/// All ways to change an entry where it stands to one below p: what is computed
+/// from it keeps its entries.
+const CHANGES: [Change; 3] = [turned, no_bit, number_kept];
 
 fn put(claim: &mut Claim, kind: &str, wire: usize, new: u64) {
     let old = claim.entry(wire);
@@ -97,19 +118,14 @@ fn put(claim: &mut Claim, kind: &str, wire: usize, new: u64) {
 }
 
 fn turned(claim: &mut Claim, place: &Place, _: &mut Random) {
-    let bit = 1 - claim.entry(place.wire) % P % 2;
+    let bit = 1 - claim.entry(place.wire) % 2;
     put(claim, place.kind, place.wire, bit);
 }
 
-/// Any multiple of p that 8 bytes hold beside a bit.
-fn turned_and_shifted(claim: &mut Claim, place: &Place, random: &mut Random) {
-    turned(claim, place, random);
-    same_residue(claim, place, random);
-}
-
-/// Another number with the same residue, for an entry that is a bit.
+/// Another number with the same residue, for an entry that is a bit: any
+/// multiple of p that 8 bytes hold beside it.
 fn same_residue(claim: &mut Claim, place: &Place, random: &mut Random) {
-    let number = claim.entry(place.wire) % P + P * random.range(1, 9) as u64;
+    let number = claim.entry(place.wire) + P * random.range(1, 9) as u64;
     put(claim, place.kind, place.wire, number);
 }
 
@@ -118,19 +134,15 @@ fn no_bit(claim: &mut Claim, place: &Place, random: &mut Random) {
 }
 
 /// Two neighbours change so that the number that the word's bits write stays
-/// what it was: as a residue, as a number of 64 bits, or as both.
-fn number_kept(claim: &mut Claim, place: &Place, random: &mut Random) {
-    let [higher, lower] = [0, 1].map(|next| claim.entry(place.higher + next) % P);
-    let less = match higher {
-        0 => random.pick(&[P - 1, u64::MAX]),
-        more => more - 1,
-    };
-    put(claim, place.kind, place.higher, less);
-    put(claim, place.kind, place.higher + 1, lower + 2);
+/// what it was, as a residue.
+fn number_kept(claim: &mut Claim, place: &Place, _: &mut Random) {
+    let [higher, lower] = [0, 1].map(|next| claim.entry(place.higher + next));
+    put(claim, place.kind, place.higher, (higher + P - 1) % P);
+    put(claim, place.kind, place.higher + 1, (lower + 2) % P);
 }
 
 /// Every kind of wire in every block, changed so many times. The ways to
-/// change it and the forge take turns; a quarter is shifted besides.
+/// change it and the forge take turns; a quarter is shifted after that.
 pub fn each_kind(calls: &mut Calls, ground: &Ground, count: usize) {
     let record = calls.random.record(ground.bits());
     let right = Claim::of(&record);
@@ -143,11 +155,11 @@ pub fn each_kind(calls: &mut Calls, ground: &Ground, count: usize) {
                     Some(change) => change(&mut claim, &place, &mut calls.random),
                     None => claim = forge(&record, &[place.wire]),
                 }
-                if calls.random.one_in(4) {
-                    claim.shift(&mut calls.random);
-                }
                 check(calls, ground, &claim);
                 calls.tally.count("changes kind by kind, block by block", 1);
+                if calls.random.one_in(4) {
+                    prime::shifted(calls, claim, &prime::check(ground));
+                }
             }
         }
     }
@@ -155,7 +167,7 @@ pub fn each_kind(calls: &mut Calls, ground: &Ground, count: usize) {
 
 /// A multiple of p added to one entry of a right claim, so many times for
 /// every kind of wire in every block, and to one entry of each part before
-/// the blocks. The judge sees the right claim alone: its answer stays.
+/// the blocks: turned over before that in half of the claims. 20 at that wire.
 pub fn single_shifts(calls: &mut Calls, ground: &Ground, count: usize) {
     let right = ground.claim(&mut calls.random);
     check(calls, ground, &right);
@@ -174,10 +186,12 @@ pub fn single_shifts(calls: &mut Calls, ground: &Ground, count: usize) {
     }
     for place in places {
         let mut claim = right.clone();
+        if calls.random.one_in(2) {
+            turned(&mut claim, &place, &mut calls.random);
+        }
         same_residue(&mut claim, &place, &mut calls.random);
-        let (digest, assignment) = (&claim.digest, &claim.assignment);
-        calls.check_known(Ok(()), ground.bits(), digest, assignment, &claim.note);
-        calls.tally.count("right claims with one entry shifted", 1);
+        prime::refused(calls, &claim, &prime::check(ground));
+        calls.tally.count("claims with one entry shifted", 1);
     }
 }
 

@@ -26,6 +26,7 @@ mod packed;
 mod packing;
 mod passage;
 mod plan;
+mod prime;
 mod program;
 mod random;
 mod records;

@@ -4,9 +4,11 @@ use judge::length::{Length, LONGEST};
 use judge::packing;
 use judge::refusal::Refusal;
 
+use crate::answers;
 use crate::calls::Calls;
 use crate::claim::Claim;
 use crate::damage::NO_BITS;
+use crate::prime::{self, FROM_PRIME};
 use crate::refusals::{choices, first, lengths_out};
 use crate::sections::{enough, record};
 
@@ -27,16 +29,15 @@ fn there_and_back(calls: &mut Calls, length: Length, wide: &[u8], small: &[u8], 
     calls.must_be(0, judged, note);
 }
 
-/// So many records' own assignments, as they are and with multiples of p added.
+/// So many records' own assignments, as they are and with multiples of p added,
+/// which is 20.
 pub fn records(calls: &mut Calls, length: u64, count: usize) {
     let in_range = Length::new(length).expect("a length in range");
     for _ in 0..count {
-        let mut claim = Claim::of(&record(calls, length));
+        let claim = Claim::of(&record(calls, length));
         let small = packed(in_range, &claim.assignment);
         there_and_back(calls, in_range, &claim.assignment, &small, &claim.note);
-        claim.shift(&mut calls.random);
-        let judged = calls.pack(length, &claim.assignment, small.len(), &claim.note);
-        calls.must_be(0, judged, &claim.note);
+        prime::shifted(calls, claim, &prime::pack(in_range));
     }
     calls.tally.count("lengths packed and unpacked", 1);
 }
@@ -49,8 +50,9 @@ pub fn random_bytes(calls: &mut Calls, length: Length) {
     there_and_back(calls, length, &wide, &small, "random packed bytes");
 }
 
-/// One entry that is no bit, at wires beside the ends and the borders of bytes
-/// and words; then several, of which the lowest must be returned.
+/// One entry that is no bit, below p or not, at wires beside the ends and the
+/// borders of bytes and words; then several below p, of which the lowest must be
+/// returned.
 pub fn no_bits(calls: &mut Calls, length: Length, times: usize) {
     let bits = length.bits() as u64;
     let right = Claim::of(&calls.random.record(bits));
@@ -59,6 +61,9 @@ pub fn no_bits(calls: &mut Calls, length: Length, times: usize) {
     for wire in fixed {
         for value in NO_BITS {
             with_no_bits(calls, bits, &right, &[(wire, value)]);
+        }
+        for value in FROM_PRIME {
+            prime::refused(calls, &right.with(wire, value), &prime::pack(length));
         }
     }
     for _ in 0..20 * times {
@@ -77,7 +82,9 @@ fn with_no_bits(calls: &mut Calls, length: u64, right: &Claim, entries: &[(usize
     let note = format!("wires and entries {entries:?}");
     let out_len = enough(calls, claim.wires().div_ceil(8));
     let judged = calls.pack(length, &claim.assignment, out_len, &note);
-    calls.must_be(10, judged, &note);
+    let lowest = entries.iter().map(|&(wire, _)| wire).min();
+    let known = answers::no_bit(lowest.unwrap_or(0));
+    calls.must_answer(known, answers::plain(judged), &note);
     calls.tally.count("entries that are no bit, packed", 1);
 }
 
@@ -159,11 +166,14 @@ impl Lending {
 /// Pack and unpack with every choice of faults, so many times.
 pub fn refusals(calls: &mut Calls, length: Length, times: usize) {
     let right = Claim::of(&calls.random.record(length.bits() as u64));
-    for faults in choices(&[2, 4, 6, 10], times) {
+    for faults in choices(&[2, 4, 6, 20, 10], times) {
         let mut claim = right.clone();
         if faults.contains(&10) {
             let wire = calls.random.below(claim.wires());
             claim.set(wire, calls.random.pick(&NO_BITS));
+        }
+        if faults.contains(&20) {
+            prime::put(&mut claim, &mut calls.random);
         }
         let right = Lending {
             length: length.bits() as u64,

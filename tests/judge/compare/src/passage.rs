@@ -76,6 +76,10 @@ fn seal_jobs(jobs: &mut Vec<Job>, amounts: &Amounts) {
         seals::damages(calls, &ground, damages);
         seals::digest_bits(calls, &ground);
     }));
+    let name = String::from("entries of p or more in sealed lines");
+    jobs.push(job(name, move |calls| {
+        seals::from_prime(calls, &seals::ground(), times);
+    }));
     jobs.push(job(String::from("sealed lines"), move |calls| {
         let ground = seals::ground();
         seals::right(calls, &ground, sealed);

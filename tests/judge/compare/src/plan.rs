@@ -6,7 +6,7 @@ use judge::length::{Length, LONGEST};
 use crate::calls::Calls;
 use crate::claim::Ground;
 use crate::program::{Program, Programs};
-use crate::{axles, kinds, listings, packed, packing, passage, records, refusals, sections};
+use crate::{axles, kinds, listings, packed, packing, passage, prime, records, refusals, sections};
 
 /// How much of everything. Lengths are in bits.
 pub struct Amounts {
@@ -174,9 +174,7 @@ pub fn jobs(amounts: &Amounts, seed: u64, programs: &Programs) -> Vec<Job> {
 fn claim_jobs(jobs: &mut Vec<Job>, amounts: &Amounts, seed: u64) {
     for &(length, count) in amounts.damaged.iter().rev() {
         jobs.push(job(format!("damages at length {length}"), move |calls| {
-            let ground = Ground::new(length);
-            sections::shifts(calls, &ground);
-            sections::damages(calls, &ground, count);
+            sections::damages(calls, &Ground::new(length), count);
         }));
     }
     for &(length, count) in amounts.kinds.iter().rev() {
@@ -188,6 +186,17 @@ fn claim_jobs(jobs: &mut Vec<Job>, amounts: &Amounts, seed: u64) {
                 kinds::single_shifts(calls, &ground, count);
                 kinds::two_changes(calls, &ground, 20 * count);
                 kinds::other_beginnings(calls, &ground, count);
+            },
+        ));
+        jobs.push(job(
+            format!("entries of p or more at length {length}"),
+            move |calls| {
+                let ground = Ground::new(length);
+                let right = ground.claim(&mut calls.random);
+                let wires = kinds::wires(ground.length, count.div_ceil(5), &mut calls.random);
+                let (check, pack) = (prime::check(&ground), prime::pack(ground.length));
+                prime::all(calls, &right, &wires, 4 * count, &check);
+                prime::all(calls, &right, &wires, 4 * count, &pack);
             },
         ));
     }

@@ -8,6 +8,7 @@ use judge::refusal::Refusal;
 
 use crate::calls::Calls;
 use crate::claim::{Claim, Ground};
+use crate::prime;
 use crate::random::Random;
 use crate::records;
 
@@ -80,8 +81,8 @@ pub fn rows(calls: &mut Calls, ground: &Ground) {
     }
 }
 
-/// The six refusals of a check, in their order.
-const CHECK_REFUSALS: [u8; 6] = [2, 5, 6, 7, 8, 9];
+/// The seven refusals of a check, in their order.
+const CHECK_REFUSALS: [u8; 7] = [2, 5, 6, 20, 7, 8, 9];
 
 /// Every choice of faults of these refusals, so many times.
 pub fn choices(refusals: &[u8], times: usize) -> impl Iterator<Item = Vec<u8>> + '_ {
@@ -105,8 +106,9 @@ pub struct Faulty {
     pub assignment: Vec<u8>,
 }
 
-/// The faults of refusals 7, 8 and 9, which are in the entries.
-fn spoil(claim: &mut Claim, has: impl Fn(u8) -> bool, random: &mut Random) {
+/// The faults of refusals 20, 7, 8 and 9, which are in the entries. Those of 20
+/// may take the place of others.
+pub fn spoil(claim: &mut Claim, has: impl Fn(u8) -> bool, random: &mut Random) {
     if has(9) {
         let wire = random.range(257, claim.wires());
         let turned = 1 - claim.entry(wire);
@@ -115,10 +117,13 @@ fn spoil(claim: &mut Claim, has: impl Fn(u8) -> bool, random: &mut Random) {
     if has(8) {
         let wire = random.pick(&[1, 2, 128, 255, 256]);
         let turned = 1 - claim.entry(wire);
-        claim.set(wire, random.pick(&[turned, turned + P, 2, P - 1]));
+        claim.set(wire, random.pick(&[turned, 2, 1 << 60, P - 1]));
     }
     if has(7) {
-        claim.set(0, random.pick(&[0, 2, P, P + 2, P - 1, u64::MAX]));
+        claim.set(0, random.pick(&[0, 2, 1 << 60, (1 << 60) + 1, P - 1]));
+    }
+    if has(20) {
+        prime::put(claim, random);
     }
 }
 

@@ -9,8 +9,9 @@ use judge::rows;
 
 use crate::calls::Calls;
 use crate::claim::{Claim, Ground};
-use crate::damage::WAYS;
+use crate::damage::{NO_BITS, WAYS};
 use crate::forge::forge;
+use crate::prime::{self, FROM_PRIME};
 
 /// Rows before block 0 and rows of a block.
 pub const START_ROWS: u64 = 256;
@@ -131,44 +132,30 @@ pub fn check(calls: &mut Calls, ground: &Ground, claim: &Claim) {
     }
 }
 
-/// A right claim, as it is and shifted by multiples of p.
+/// A right claim, as it is, with an entry of p or more on the last wire and on
+/// any, also to the packer, and shifted by multiples of p.
 pub fn right_claims(calls: &mut Calls, ground: &Ground) {
-    let mut claim = ground.claim(&mut calls.random);
+    let claim = ground.claim(&mut calls.random);
     check(calls, ground, &claim);
-    claim.shift(&mut calls.random);
-    check(calls, ground, &claim);
+    prime::last_and_any(calls, &claim, &prime::check(ground));
+    prime::last_and_any(calls, &claim, &prime::pack(ground.length));
+    prime::shifted(calls, claim, &prime::check(ground));
     calls
         .tally
         .count("lengths with right claims, as they are and shifted", 1);
 }
 
-/// A right claim shifted as a whole by p, 2 p, up to 8 p; then here and there,
-/// so that most words have one entry that is shifted, or every other.
-pub fn shifts(calls: &mut Calls, ground: &Ground) {
-    let right = ground.claim(&mut calls.random);
-    for times in 1..=8 {
-        let mut claim = right.clone();
-        claim.shift_all(times);
-        check(calls, ground, &claim);
-    }
-    for times in [2, 24, 1_000] {
-        let mut claim = right.clone();
-        claim.shift_one_in(times, &mut calls.random);
-        check(calls, ground, &claim);
-    }
-}
-
 /// So many damages of a right claim, in one way. A quarter is shifted by
-/// multiples of p besides.
+/// multiples of p after that.
 fn damages_of(calls: &mut Calls, ground: &Ground, right: &Claim, way: usize, count: usize) {
     let (name, damage) = WAYS[way];
     for _ in 0..count {
         let mut claim = right.clone();
         damage(ground, &mut claim, &mut calls.random);
-        if calls.random.one_in(4) {
-            claim.shift(&mut calls.random);
-        }
         check(calls, ground, &claim);
+        if calls.random.one_in(4) {
+            prime::shifted(calls, claim, &prime::check(ground));
+        }
     }
     calls.tally.count(name, count as u64);
 }
@@ -191,17 +178,18 @@ pub fn some_damages(calls: &mut Calls, ground: &Ground, count: usize) {
 }
 
 /// Every `step`-th wire from `first` on, before `end`: turned over on the way
-/// by the forge, and set to a number that is no bit in a right claim.
+/// by the forge, and set to a number that is no bit in a right claim, and to one
+/// of p or more, which is packed too.
 pub fn each_wire(calls: &mut Calls, ground: &Ground, first: usize, end: usize, step: usize) {
     let record = calls.random.record(ground.bits());
     let right = Claim::of(&record);
     for wire in (first..end).step_by(step) {
         check(calls, ground, &forge(&record, &[wire]));
-        let mut claim = right.clone();
-        let no_bit = calls.random.pick(&[2, 1 << 60, (1 << 61) - 2, u64::MAX]);
-        claim.set(wire, no_bit);
-        claim.note += &format!(", wire {wire} set to {no_bit}");
-        check(calls, ground, &claim);
+        let no_bit = right.with(wire, calls.random.pick(&NO_BITS));
+        check(calls, ground, &no_bit);
+        let claim = right.with(wire, calls.random.pick(&FROM_PRIME));
+        prime::refused(calls, &claim, &prime::check(ground));
+        prime::refused(calls, &claim, &prime::pack(ground.length));
         calls.tally.count("wires turned over and set to no bit", 1);
     }
 }

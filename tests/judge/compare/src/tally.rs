@@ -39,7 +39,7 @@ const ROWS: Table = Table {
         (Operation::Pack, "pack"),
         (Operation::Unpack, "unpack"),
     ],
-    refusals: &[0, 2, 3, 4, 5, 6, 7, 8, 9, 10, 11, 12, 13, 14],
+    refusals: &[0, 2, 3, 4, 5, 6, 20, 7, 8, 9, 10, 11, 12, 13, 14],
 };
 
 const PASSAGES: Table = Table {
@@ -49,7 +49,7 @@ const PASSAGES: Table = Table {
         (Operation::PassageSeal, "seal"),
         (Operation::PassageCheck, "check"),
     ],
-    refusals: &[0, 15, 16, 17, 4, 5, 6, 7, 8, 9],
+    refusals: &[0, 15, 16, 17, 4, 5, 6, 20, 7, 8, 9],
 };
 
 const AXLES: Table = Table {
@@ -58,7 +58,7 @@ const AXLES: Table = Table {
         (Operation::AxlesProduce, "produce"),
         (Operation::AxlesCheck, "check"),
     ],
-    refusals: &[0, 13, 18, 19, 3, 4, 5, 6, 7, 8, 9],
+    refusals: &[0, 13, 18, 19, 3, 4, 5, 6, 20, 7, 8, 9],
 };
 
 /// The bits of the record with appended rows, and the first of these rows.
@@ -68,7 +68,7 @@ const APPENDED: u32 = 65_152;
 #[derive(Default)]
 pub struct Tally {
     /// Calls by operation and by the judge's refusal, 0 for none.
-    calls: [[u64; 20]; 13],
+    calls: [[u64; 21]; 13],
     /// Other things counted, by their name.
     counts: BTreeMap<&'static str, u64>,
     /// Rows seen as the failing one: the record's bits and the row number.

@@ -22,7 +22,8 @@ pub fn seal(line: &[u8], digest: &mut [u8], assignment: &mut [u8]) -> Result<(),
     operations::produce(LINE_BITS, line, assignment)
 }
 
-/// `Ok` when the assignment is accepted against the digest: refusals 5 to 9.
+/// `Ok` when the assignment is accepted against the digest: refusals 5, 6, 20,
+/// 7, 8, 9.
 pub fn check(digest: &[u8], assignment: &[u8]) -> Result<(), Refusal> {
     check::check(LINE_BITS, assignment, digest)
 }

@@ -8,9 +8,10 @@ use std::io::Write;
 use std::process::{Command, Stdio};
 
 use judge::field::P;
-use judge::forms::{Row, RowNumber, RowTable, Term};
+use judge::forms::{Row, RowNumber, RowTable, Term, Wire};
 use judge::length::Length;
 use judge::record::Record;
+use judge::refusal::Refusal;
 
 /// The lengths at which every row is evaluated: whole bytes, and records that
 /// end inside a byte, on both sides of where the blocks end.
@@ -38,6 +39,14 @@ pub fn bytes(count: usize, seed: u64) -> Vec<u8> {
         (state >> 56) as u8
     };
     (0..count).map(|_| next()).collect()
+}
+
+/// Entries of p or more; p + 1 is 2^61.
+pub const FROM_PRIME: [u64; 7] = [P, P + 1, P + 2, 2 * P, 8 * P + 1, 1 << 63, u64::MAX];
+
+/// Refusal 20 at that wire.
+pub fn not_below_prime<T>(wire: usize) -> Result<T, Refusal> {
+    Err(Refusal::NotBelowPrime(Wire(wire as u32)))
 }
 
 /// Buffers are lent full of this byte, to see what stays.
@@ -76,7 +85,7 @@ fn whole_sum(sum: &[Term], entries: impl Fn(usize) -> u64) -> i128 {
             i128::from(c)
         }
     };
-    let value = |t: &Term| signed(t.coefficient) * i128::from(entries(t.wire.0 as usize) % P);
+    let value = |t: &Term| signed(t.coefficient) * i128::from(entries(t.wire.0 as usize));
     sum.iter().map(value).sum()
 }
 

@@ -2,8 +2,8 @@
 //! check of it.
 
 use host::axles::Pair;
-use judge::axles::{assignment_bytes, check_with, rows};
-use judge::field;
+use judge::axles::{assignment_bytes, rows};
+use judge::entries;
 
 use super::bounds::all_pairs;
 use super::calls::{Room, What};
@@ -11,10 +11,12 @@ use super::claims::{
     appended_answer, bits_modulo, bounds, digits, fill, numbers, record, right_entries, some_axles,
     some_pair, unfilled, unsatisfied, NUMBERS, WIRES,
 };
+use super::damages::check;
 use crate::answers;
 use crate::calls::Calls;
 use crate::claim::Claim;
 use crate::lent::Lent;
+use crate::prime;
 use crate::sections::enough;
 use crate::tally::Operation;
 
@@ -36,7 +38,7 @@ impl Stage {
     fn new(calls: &mut Calls, axles: u8) -> Stage {
         let record = record(digits(axles), &mut calls.random);
         let claim = unfilled(&record);
-        let entries = field::read_entries(&claim.assignment);
+        let entries = entries::read(&claim.assignment).expect("entries that are bits");
         let mut must = Lent::buffer(claim.assignment.len() + 9, &mut calls.random);
         must.slice_mut().fill(OLD);
         let out = must.clone();
@@ -156,7 +158,8 @@ pub fn axles(calls: &mut Calls, axles: u8, every_pair: bool) {
     }
 }
 
-/// So many records produced and checked by the judge's own whole functions.
+/// So many records produced and checked by the judge's own whole functions, as
+/// they are and shifted by multiples of p.
 pub fn produced(calls: &mut Calls, count: usize) {
     let mut table = rows::all(bounds([2, 99]));
     for _ in 0..count {
@@ -169,12 +172,10 @@ pub fn produced(calls: &mut Calls, count: usize) {
         let mut claim = unfilled(&record);
         fill(&mut claim, &right_entries(pair, axles));
         rows::rebind(&mut table, bounds(pair));
-        for _ in 0..2 {
-            let judged = check_with(&table, &claim.digest, &claim.assignment);
-            calls.must_be(0, judged, "what a producer writes");
-            calls.axles_check(judged, pair, &claim);
-            claim.shift(&mut calls.random);
-        }
+        let ask = |calls: &mut Calls, claim: &Claim| check(calls, &table, pair, claim);
+        let judged = ask(calls, &claim);
+        calls.must_be(0, judged, "what a producer writes");
+        prime::shifted(calls, claim, &ask);
         calls.tally.count("axle records produced and accepted", 1);
     }
 }

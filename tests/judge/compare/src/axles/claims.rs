@@ -4,6 +4,7 @@
 use host::axles::Pair;
 use judge::axles::{self, band::Axles, layout, rows, Bounds};
 use judge::check::satisfied;
+use judge::entries;
 use judge::field::{self, P};
 use judge::forms::RowNumber;
 use judge::record::Record;
@@ -144,7 +145,8 @@ pub fn right(pair: Pair, axles: u8, random: &mut Random) -> Claim {
     claim
 }
 
-/// The judge's answer for entries that are right up to the appended ones.
+/// The judge's answer for entries that are right up to the appended ones, and
+/// all below p.
 pub fn appended_answer(pair: Pair, entries: &[u64]) -> Result<(), Refusal> {
     let table = rows::appended(bounds(pair));
     let mut failing = table.iter().filter(|&(_, row)| !satisfied(row, entries));
@@ -154,9 +156,10 @@ pub fn appended_answer(pair: Pair, entries: &[u64]) -> Result<(), Refusal> {
     }
 }
 
-/// The same for a claim.
+/// The same for a claim, whose appended entries may be p or more.
 pub fn claim_answer(pair: Pair, claim: &Claim) -> Result<(), Refusal> {
-    appended_answer(pair, &field::read_entries(&claim.assignment))
+    let entries = entries::read(&claim.assignment)?;
+    appended_answer(pair, &entries)
 }
 
 pub fn unsatisfied(row: u32) -> Refusal {

@@ -6,7 +6,7 @@ use std::ops::Range;
 use host::axles::Pair;
 use judge::axles::{check_with, rows};
 use judge::field::P;
-use judge::forms::RowTable;
+use judge::forms::{RowTable, Wire};
 use judge::record::Record;
 use judge::refusal::Refusal;
 
@@ -20,6 +20,8 @@ use crate::calls::Calls;
 use crate::claim::{Claim, Ground};
 use crate::damage::{NO_BITS, WAYS};
 use crate::forge::forge;
+use crate::kinds;
+use crate::prime::{self, FROM_PRIME};
 use crate::random::Random;
 
 /// The wires of the two digits' bytes.
@@ -34,14 +36,14 @@ fn some_claim(random: &mut Random) -> (Pair, u8, Claim) {
 
 /// What a claim must be answered with that appended wire set to a value in the
 /// place of the right bit: its bit row refuses what is no bit, the sum row the
-/// other bit.
-fn answer(wire: usize, right: u64, value: u64) -> Result<(), Refusal> {
+/// other bit; and what is not below p is refused before any row.
+fn answer(wire: usize, value: u64) -> Refusal {
     let has = |number: &&Number| wire < number.wire + number.bits;
     let number = NUMBERS.iter().find(has).expect("an appended wire");
-    match value % P {
-        read if read == right => Ok(()),
-        0 | 1 => Err(unsatisfied(number.sum_row())),
-        _ => Err(unsatisfied(number.bit_row(wire - number.wire))),
+    match value {
+        P.. => Refusal::NotBelowPrime(Wire((WIRES + wire) as u32)),
+        0 | 1 => unsatisfied(number.sum_row()),
+        _ => unsatisfied(number.bit_row(wire - number.wire)),
     }
 }
 
@@ -50,13 +52,11 @@ pub fn each_appended(calls: &mut Calls, count: usize) {
     for _ in 0..count {
         let (pair, axles, mut claim) = some_claim(&mut calls.random);
         for (wire, right) in right_entries(pair, axles).into_iter().enumerate() {
-            let turned = 1 - right;
-            let bits = [turned, P, P + 1, 7 * P + right, 8 * P + turned];
-            for value in bits.into_iter().chain(NO_BITS) {
+            for value in [1 - right].into_iter().chain(NO_BITS).chain(FROM_PRIME) {
                 claim.set(WIRES + wire, value);
                 claim.note = format!("{axles} axles, appended wire {wire} set to {value}");
                 let judged = claim_answer(pair, &claim);
-                let known = answers::plain(answer(wire, right, value));
+                let known = answers::plain(Err(answer(wire, value)));
                 calls.must_answer(known, answers::plain(judged), &claim.note);
                 calls.axles_check(judged, pair, &claim);
                 calls.tally.count("appended wires set to other values", 1);
@@ -73,7 +73,12 @@ fn circuit(ground: &mut Ground, pair: Pair) -> &RowTable {
 }
 
 /// A claim checked by the library and by all rows of the judge.
-fn check(calls: &mut Calls, table: &RowTable, pair: Pair, claim: &Claim) -> Result<(), Refusal> {
+pub fn check(
+    calls: &mut Calls,
+    table: &RowTable,
+    pair: Pair,
+    claim: &Claim,
+) -> Result<(), Refusal> {
     let judged = check_with(table, &claim.digest, &claim.assignment);
     calls.axles_check(judged, pair, claim);
     judged
@@ -84,13 +89,16 @@ fn check(calls: &mut Calls, table: &RowTable, pair: Pair, claim: &Claim) -> Resu
 pub fn each_digit_wire(calls: &mut Calls, ground: &mut Ground) {
     let pair = [2, 99];
     let table = circuit(ground, pair);
-    let (axles, right) = (45, right(pair, 45, &mut calls.random));
+    let right = right(pair, 45, &mut calls.random);
     for wire in DIGIT_WIRES {
         let turned = 1 - right.entry(wire);
-        for value in [turned, turned + P, 2, P - 1, u64::MAX] {
-            let mut claim = right.clone();
-            claim.set(wire, value);
-            claim.note = format!("{axles} axles, wire {wire} set to {value}");
+        for value in [turned + P, u64::MAX] {
+            prime::refused(calls, &right.with(wire, value), &|calls, claim| {
+                check(calls, table, pair, claim)
+            });
+        }
+        for value in [turned, 2, 3, 1 << 60, P - 1] {
+            let claim = right.with(wire, value);
             let judged = check(calls, table, pair, &claim);
             calls.must_be(9, judged, &claim.note);
             calls.tally.count("wires of digits changed", 1);
@@ -104,6 +112,18 @@ pub fn each_digit_wire(calls: &mut Calls, ground: &mut Ground) {
             calls.must_be(9, judged, &claim.note);
         }
     }
+}
+
+/// Entries of p or more: so many wires of every kind of the record's and each
+/// appended one with each of them, and forty times as many claims with several.
+pub fn from_prime(calls: &mut Calls, ground: &mut Ground, count: usize) {
+    let (pair, _, right) = some_claim(&mut calls.random);
+    let mut wires = kinds::wires(ground.length, count, &mut calls.random);
+    wires.extend(WIRES..right.wires());
+    let table = circuit(ground, pair);
+    prime::all(calls, &right, &wires, 40 * count, &|calls, claim| {
+        check(calls, table, pair, claim)
+    });
 }
 
 /// The axles, 2 to 99, that stand on the wires of the digits, which are bits.
@@ -158,7 +178,9 @@ pub fn plain_records(calls: &mut Calls, ground: &Ground, count: usize) {
         let judged = calls.check(table, LINE_BITS, digest, &claim.assignment, "cut off");
         calls.must_be(0, judged, "an axle claim cut off");
         let random = calls.random.bytes(all - 8 * WIRES);
-        for more in [vec![0; all - 8 * WIRES], random] {
+        let field = (WIRES..right.wires()).flat_map(|_| calls.random.field().to_le_bytes());
+        let field: Vec<u8> = field.collect();
+        for more in [vec![0; all - 8 * WIRES], field, random] {
             claim.assignment.truncate(8 * WIRES);
             claim.assignment.extend(more);
             claim.note = String::from("a record's own with any entries behind it");

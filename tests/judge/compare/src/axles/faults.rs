@@ -1,6 +1,6 @@
-//! All choices of the faults of 13, 18, 19 and 4 in produce, and of 18 and 5 to
-//! 9 in the check. The first fault in this order must be returned. Sizes on both
-//! sides of the right ones.
+//! All choices of the faults of 13, 18, 19 and 4 in produce, and of 18, 5, 6, 20,
+//! 7, 8 and 9 in the check. The first fault in this order must be returned. Sizes
+//! on both sides of the right ones.
 
 use host::axles::Pair;
 use judge::axles::{self, check_with, rows, RECORD_BYTES};
@@ -54,7 +54,7 @@ pub fn produces(calls: &mut Calls, wrong: &[Pair], times: usize) {
 /// The check with every choice of faults, so many times.
 pub fn checks(calls: &mut Calls, wrong: &[Pair], times: usize) {
     let mut table = rows::all(bounds([2, 99]));
-    for faults in choices(&[18, 5, 6, 7, 8, 9], times) {
+    for faults in choices(&[18, 5, 6, 20, 7, 8, 9], times) {
         let has = |refusal| faults.contains(&refusal);
         let pair = some_pair(&mut calls.random);
         let axles = some_axles(pair, &mut calls.random);

@@ -9,6 +9,8 @@ use super::fields::Fields;
 use crate::calls::Calls;
 use crate::claim::{Claim, Ground};
 use crate::damage::WAYS;
+use crate::kinds;
+use crate::prime;
 use crate::refusals::{choices, faulty, first};
 use crate::sections::enough;
 
@@ -45,18 +47,26 @@ fn sealed(calls: &mut Calls) -> Claim {
     claim
 }
 
-/// So many lines sealed; what was written is accepted, as it is and with
+/// So many lines sealed; what was written is accepted as it is, and is 20 with
 /// multiples of p added.
 pub fn right(calls: &mut Calls, ground: &Ground, count: usize) {
     for _ in 0..count {
-        let mut claim = sealed(calls);
+        let claim = sealed(calls);
         let judged = check(calls, ground, &claim);
         calls.must_be(0, judged, "what seal wrote");
-        claim.shift(&mut calls.random);
-        let judged = check(calls, ground, &claim);
-        calls.must_be(0, judged, "what seal wrote, shifted");
+        prime::shifted(calls, claim, &|calls, claim| check(calls, ground, claim));
         calls.tally.count("lines sealed and accepted", 1);
     }
+}
+
+/// Entries of p or more in a sealed line's assignment: so many wires of every
+/// kind with each of them, and forty times as many claims with several.
+pub fn from_prime(calls: &mut Calls, ground: &Ground, count: usize) {
+    let right = sealed(calls);
+    let wires = kinds::wires(ground.length, count, &mut calls.random);
+    prime::all(calls, &right, &wires, 40 * count, &|calls, claim| {
+        check(calls, ground, claim)
+    });
 }
 
 /// So many damages of a sealed line in every way.
@@ -131,10 +141,10 @@ pub fn sizes(calls: &mut Calls, ground: &Ground) {
     }
 }
 
-/// Check with every choice of the faults of 5, 6, 7, 8, 9, so many times.
+/// Check with every choice of the faults of 5, 6, 20, 7, 8, 9, so many times.
 pub fn faults(calls: &mut Calls, ground: &Ground, times: usize) {
     let right = sealed(calls);
-    for faults in choices(&[5, 6, 7, 8, 9], times) {
+    for faults in choices(&[5, 6, 20, 7, 8, 9], times) {
         let has = |refusal| faults.contains(&refusal);
         let claim = faulty(calls, &right, LINE_BITS, has);
         let (digest, assignment) = (&claim.digest, &claim.assignment);
