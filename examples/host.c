@@ -1,7 +1,7 @@
 /* Seals a record and checks it, as a C host does: the digest, the assignment, the check, the assignment packed for a disk
- * and unpacked again, and what packing and the check say once an entry of the assignment was changed. Usage:
- * host [TEXT [BITS]]; the record is the text, or its first so many bits. Without a text there are two records, one of
- * whole bytes and a tag that ends inside a byte, and what is said of bytes that do not fit the tag's bits. Builds by
+ * and unpacked again to the same bytes, and what packing and the check say once an entry of the assignment was changed.
+ * Usage: host [TEXT [BITS]]; the record is the text, or its first so many bits. Without a text there are two records, one
+ * of whole bytes and a tag that ends inside a byte, and what is said of bytes that do not fit the tag's bits. Builds by
  * examples/run.sh. */
 
 #include <inttypes.h>
@@ -65,43 +65,70 @@ static uint64_t check(const struct claim *claim)
 }
 
 /* An answer of 0 says that the assignment belongs to the digest. */
-static int accepted(const char *what, const struct claim *claim)
+static int accepted(const struct claim *claim)
 {
     int right = check(claim) == 0;
-    printf("%-8s %s\n", what, right ? "accepted" : "refused");
+    printf("check    %s\n", right ? "accepted" : "refused");
     return right;
 }
 
-/* To a disk and back: from one bit a wire the assignment is written anew. */
-static void store(const struct claim *claim)
+static uint64_t pack(const struct claim *claim, uint8_t *packed)
 {
-    size_t size = SM3ROWS_PACKED_BYTES(claim->bits);
-    uint8_t *packed = room(size);
-    go_on("pack", sm3rows_pack(claim->bits, claim->assignment, claim->assignment_size, packed, size));
-    printf("packed   %zu bytes instead of %zu\n", size, claim->assignment_size);
-    memset(claim->assignment, 0, claim->assignment_size);
-    go_on("unpack", sm3rows_unpack(claim->bits, packed, size, claim->assignment, claim->assignment_size));
-    free(packed);
+    return sm3rows_pack(claim->bits, claim->assignment, claim->assignment_size, packed,
+                        SM3ROWS_PACKED_BYTES(claim->bits));
 }
 
-/* Wire 513 is the message's first bit. As 2 it is no bit, and packing says which wire it was. */
-static int name_no_bit(const struct claim *claim)
+/* To a disk and back: from one bit a wire the assignment is written anew, the same bytes. */
+static int store(const struct claim *claim)
 {
     size_t size = SM3ROWS_PACKED_BYTES(claim->bits);
-    uint8_t *packed = room(size), *entry = claim->assignment + 8 * 513, kept = *entry;
-    *entry = 2;
-    uint64_t answer = sm3rows_pack(claim->bits, claim->assignment, claim->assignment_size, packed, size);
-    *entry = kept;
+    uint8_t *packed = room(size), *unpacked = room(claim->assignment_size);
+    go_on("pack", pack(claim, packed));
+    printf("packed   %zu bytes instead of %zu\n", size, claim->assignment_size);
+    go_on("unpack", sm3rows_unpack(claim->bits, packed, size, unpacked, claim->assignment_size));
+    int same = memcmp(unpacked, claim->assignment, claim->assignment_size) == 0;
     free(packed);
-    printf("no bit   refusal %u, wire %" PRIu64 "\n", SM3ROWS_REFUSAL(answer), SM3ROWS_FAILING_WIRE(answer));
-    return SM3ROWS_REFUSAL(answer) == 10 && SM3ROWS_FAILING_WIRE(answer) == 513;
+    free(unpacked);
+    printf("unpacked %s\n", same ? "the same bytes" : "OTHER bytes");
+    return same;
+}
+
+/* The message's first bit. */
+enum { WIRE = 513 };
+
+/* Its entry, in 8 bytes, least byte first. */
+static void put_entry(const struct claim *claim, uint64_t value)
+{
+    for (unsigned k = 0; k < 8; k++)
+        claim->assignment[8 * WIRE + k] = (uint8_t)(value >> 8 * k);
+}
+
+static int is_wire(const char *what, uint64_t answer, unsigned refusal)
+{
+    printf("%-8s refusal %u, wire %" PRIu64 "\n", what, SM3ROWS_REFUSAL(answer), SM3ROWS_FAILING_WIRE(answer));
+    return SM3ROWS_REFUSAL(answer) == refusal && SM3ROWS_FAILING_WIRE(answer) == WIRE;
+}
+
+/* As 2 the entry is no bit, and packing says which wire it was. With p added it is the bit modulo p, but the proof back
+ * end would stop on it: the check and packing refuse it and say which wire it was. */
+static int name_wires(const struct claim *claim)
+{
+    uint8_t *packed = room(SM3ROWS_PACKED_BYTES(claim->bits)), kept = claim->assignment[8 * WIRE];
+    put_entry(claim, 2);
+    int right = is_wire("no bit", pack(claim, packed), 10);
+    put_entry(claim, SM3ROWS_PRIME + kept);
+    right &= is_wire("plus p", check(claim), 20);
+    right &= pack(claim, packed) == check(claim);
+    put_entry(claim, kept);
+    free(packed);
+    return right;
 }
 
 /* The same wire as the other bit breaks a row; that row by its number. */
 static int name_row(const struct claim *claim)
 {
     uint8_t row[SM3ROWS_ROW_BYTES];
-    claim->assignment[8 * 513] ^= 1;
+    claim->assignment[8 * WIRE] ^= 1;
     uint64_t failed = check(claim);
     printf("damaged  refusal %u, row %" PRIu64 "\n", SM3ROWS_REFUSAL(failed), SM3ROWS_FAILING_ROW(failed));
     uint64_t answer = sm3rows_row(claim->bits, SM3ROWS_FAILING_ROW(failed), row, sizeof row);
@@ -114,10 +141,9 @@ static int name_row(const struct claim *claim)
 static int go_through(uint64_t bits, const uint8_t *record)
 {
     struct claim claim = seal(bits, record);
-    int right = accepted("check", &claim);
-    store(&claim);
-    right &= accepted("unpacked", &claim);
-    right &= name_no_bit(&claim);
+    int right = accepted(&claim);
+    right &= store(&claim);
+    right &= name_wires(&claim);
     right &= name_row(&claim);
     free(claim.assignment);
     return right;

@@ -115,17 +115,20 @@ static int name_wrong_fields(void)
            PASSAGE_WRONG_BYTE(letter) == PASSAGE_PLATE_FIRST;
 }
 
-/* Wire 513 is the line's first bit. As the other bit it breaks a row, which the check names. */
-static int name_row(const uint8_t line[PASSAGE_LINE_BYTES])
+/* Wire 513 is the line's first bit. As the other bit it breaks a row, which the check names. With all bits of its 8 bytes
+ * set it is no number below 2^61 - 1, and the check names the wire. */
+static int name_damage(const uint8_t line[PASSAGE_LINE_BYTES])
 {
     struct sealed *sealed = room(sizeof *sealed);
-    uint64_t answer = seal(line, PASSAGE_LINE_BYTES, sealed);
-    int right = answer == 0 && check(sealed) == 0;
+    int right = seal(line, PASSAGE_LINE_BYTES, sealed) == 0 && check(sealed) == 0;
     sealed->assignment[8 * 513] ^= 1;
-    answer = check(sealed);
+    uint64_t other = check(sealed);
+    memset(sealed->assignment + 8 * 513, 0xff, 8);
+    uint64_t great = check(sealed);
     free(sealed);
-    printf("damaged  refusal %u, row %" PRIu64 "\n", PASSAGE_REFUSAL(answer), PASSAGE_FAILING_ROW(answer));
-    return right && PASSAGE_REFUSAL(answer) == 9;
+    printf("damaged  refusal %u, row %" PRIu64 "\n", PASSAGE_REFUSAL(other), PASSAGE_FAILING_ROW(other));
+    printf("         refusal %u, wire %" PRIu64 "\n", PASSAGE_REFUSAL(great), PASSAGE_FAILING_WIRE(great));
+    return right && PASSAGE_REFUSAL(other) == 9 && PASSAGE_REFUSAL(great) == 20 && PASSAGE_FAILING_WIRE(great) == 513;
 }
 
 /* ---- The band that a line's axles are in ---- */
@@ -238,7 +241,7 @@ int main(int argc, char **argv)
         return EXIT_FAILURE;
     }
     int right = compose(line);
-    right = right && name_row(line) && name_bands(line);
+    right = right && name_damage(line) && name_bands(line);
     right &= name_wrong_fields();
     right &= go_through_lines(bytes, size);
     free(bytes);

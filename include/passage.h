@@ -20,6 +20,7 @@
  *   - passage_read without a refusal: the lane at bits 8 to 17, the time at bits 18 to 51, the class at bits 52 to 55, the
  *     axles at bits 56 to 62;
  *   - refusal 16: the lowest wrong byte of the line, from bit 8 on, counted from 0;
+ *   - refusal 20: the lowest wire of all whose entry is 2^61 - 1 or more, from bit 8 on;
  *   - refusal 9: the lowest row that is not satisfied, from bit 8 on;
  *   - otherwise 0.
  *
@@ -32,8 +33,9 @@
  *   4  a buffer to be written is shorter than 63 bytes (line), 32 (digest) or 364,552 (assignment)
  *   5  the digest that an assignment is held against is not 32 bytes
  *   6  the assignment is not exactly 364,552 bytes
- *   7  wire 0 does not read as 1
- *   8  a digest wire does not read as its bit of the digest
+ *  20  an entry is 2^61 - 1 or more
+ *   7  wire 0 is not 1
+ *   8  a digest wire is not its bit of the digest
  *   9  a row is not satisfied
  * Numbers are compared as they come, 64 bits wide.
  *
@@ -76,6 +78,7 @@ extern "C" {
 #define PASSAGE_AXLES(answer) ((unsigned)((answer) >> 56 & 0x7f))
 #define PASSAGE_WRONG_BYTE(answer) ((unsigned)((answer) >> 8))
 #define PASSAGE_FAILING_ROW(answer) ((uint64_t)(answer) >> 8)
+#define PASSAGE_FAILING_WIRE(answer) ((uint64_t)(answer) >> 8)
 
 /* The numbers of a line. Its plate and its blind are bytes 20 to 29 and 31 to 62 of the line itself. Refusals 15, 16,
  * 17. */
@@ -92,8 +95,9 @@ uint64_t passage_write(uint64_t lane, uint64_t time, uint64_t vehicle_class, uin
 uint64_t passage_seal(const uint8_t *line, size_t line_len, uint8_t *digest, size_t digest_len, uint8_t *assignment,
                       size_t assignment_len);
 
-/* Whether the assignment, its entries read modulo 2^61 - 1, satisfies every row for records of 504 bits and has this
- * digest. 0 when it does. That the record is a passage line no row says. Refusals 5, 6, 7, 8, 9. */
+/* Whether the assignment satisfies every row for records of 504 bits and has this digest. 0 when it does: then it is, byte
+ * for byte, the assignment of a record of 504 bits that has this digest. That the record is a passage line no row says.
+ * Refusals 5, 6, 20, 7, 8, 9. */
 uint64_t passage_check(const uint8_t *digest, size_t digest_len, const uint8_t *assignment, size_t assignment_len);
 
 #ifdef __cplusplus

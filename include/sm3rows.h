@@ -8,11 +8,15 @@
  * passage line; bytes 17 and 18 are digits, the tens and the units of the axles, which lie within the bounds, ends
  * included. Bounds are from 2 to 99; they too are compared as they come.
  *
+ * An assignment has one entry a wire: a number below p in 8 bytes, least byte first. An entry of p or more is refused, and
+ * none is read modulo p.
+ *
  * The answer of every call is one 64-bit number. Its low byte is the refusal's number, 0 for none. What stands above it:
  *   - sm3rows_row and sm3rows_axles_row without a refusal: how many terms A, B and C have, in bits 8 to 15, 16 to 23
  *     and 24 to 31;
  *   - refusal 9: the lowest row that is not satisfied, from bit 8 on;
- *   - refusal 10: the lowest wire whose entry is no bit, from bit 8 on;
+ *   - refusal 20: the lowest wire of all whose entry is p or more, from bit 8 on;
+ *   - refusal 10: the lowest wire whose entry is neither 0 nor 1, from bit 8 on;
  *   - otherwise 0.
  *
  * Refusals, in the order in which they are looked for. A call skips those that it has no argument for. A refused call
@@ -27,11 +31,12 @@
  *      65 + 2,816 x blocks (packed bytes)
  *   5  the digest that an assignment is held against is not 32 bytes
  *   6  the assignment is not exactly 8 x wires bytes
- *  10  an entry reads, modulo p, as neither 0 nor 1 (sm3rows_pack alone)
+ *  20  an entry is p or more
+ *  10  an entry is neither 0 nor 1 (sm3rows_pack alone)
  *  11  the packed bytes are not exactly 65 + 2,816 x blocks
  *  12  a spare bit is set, one of the 7 low bits of the last packed byte
- *   7  wire 0 does not read as 1
- *   8  a digest wire does not read as its bit of the digest
+ *   7  wire 0 is not 1
+ *   8  a digest wire is not its bit of the digest
  *   9  a row is not satisfied
  * (1 is a refusal of the programs alone.)
  *
@@ -52,6 +57,9 @@
 #ifdef __cplusplus
 extern "C" {
 #endif
+
+/* The prime p: every entry of an assignment is below it. */
+#define SM3ROWS_PRIME 2305843009213693951u
 
 /* The most bits of a record; and sizes for a record of `bits` bits, from 0 to that many. */
 #define SM3ROWS_MOST_BITS 8127u
@@ -94,18 +102,20 @@ uint64_t sm3rows_row(uint64_t bits, uint64_t row, uint8_t *out, size_t out_len);
  * 256, its first bit first. Refusals 2, 13, 14, 4. */
 uint64_t sm3rows_produce(uint64_t bits, const uint8_t *record, size_t record_len, uint8_t *out, size_t out_len);
 
-/* Whether the assignment, its entries read modulo p, satisfies every row for records of `bits` bits and has this digest.
- * 0 when it does. Refusals 2, 5, 6, 7, 8, 9. */
+/* Whether the assignment satisfies every row for records of `bits` bits and has this digest. 0 when it does: then it is,
+ * byte for byte, what sm3rows_produce writes for a record of so many bits that has this digest. Refusals 2, 5, 6, 20, 7,
+ * 8, 9. */
 uint64_t sm3rows_check(uint64_t bits, const uint8_t *digest, size_t digest_len, const uint8_t *assignment,
                        size_t assignment_len);
 
-/* The assignment for records of `bits` bits, its entries read modulo p, at one bit a wire into the first
- * 65 + 2,816 x blocks bytes of out: wire w in byte w / 8, the first wire in the highest bit, the spare low bits zero.
- * Bytes of out past them keep their value. Refusals 2, 4, 6, 10. */
+/* The assignment for records of `bits` bits at one bit a wire into the first 65 + 2,816 x blocks bytes of out: wire w in
+ * byte w / 8, the first wire in the highest bit, the spare low bits zero. Bytes of out past them keep their value.
+ * Refusals 2, 4, 6, 20, 10. */
 uint64_t sm3rows_pack(uint64_t bits, const uint8_t *assignment, size_t assignment_len, uint8_t *out, size_t out_len);
 
 /* The way back: the assignment of packed bytes into the first 8 x wires bytes of out, laid out as by sm3rows_produce.
- * Bytes of out past it keep their value. Refusals 2, 4, 11, 12. */
+ * Bytes of out past it keep their value. Unpacking what was packed gives the assignment byte for byte. Refusals 2, 4, 11,
+ * 12. */
 uint64_t sm3rows_unpack(uint64_t bits, const uint8_t *packed, size_t packed_len, uint8_t *out, size_t out_len);
 
 /* ---- Axles between two bounds: the wires and rows of a record of 504 bits, and behind them 22 wires and 34 rows ---- */
@@ -121,9 +131,10 @@ uint64_t sm3rows_axles_row(uint64_t lower, uint64_t upper, uint64_t row, uint8_t
 uint64_t sm3rows_axles_produce(uint64_t lower, uint64_t upper, const uint8_t *record, size_t record_len, uint8_t *out,
                                size_t out_len);
 
-/* Whether the assignment, its entries read modulo p, satisfies every row for axles between these bounds and has this
- * digest. 0 when it does: then some record of 63 bytes has this digest, its bytes 17 and 18 are digits, and the axles
- * lie within the bounds. Nothing else of the record is said by that. Refusals 18, 5, 6, 7, 8, 9. */
+/* Whether the assignment satisfies every row for axles between these bounds and has this digest. 0 when it does: then it
+ * is, byte for byte, what sm3rows_axles_produce writes for some record of 63 bytes that has this digest, its bytes 17 and
+ * 18 are digits, and the axles lie within the bounds. Nothing else of the record is said by that. Refusals 18, 5, 6, 20,
+ * 7, 8, 9. */
 uint64_t sm3rows_axles_check(uint64_t lower, uint64_t upper, const uint8_t *digest, size_t digest_len,
                              const uint8_t *assignment, size_t assignment_len);
 
