@@ -19,7 +19,7 @@ enum { TENS = 17, UNITS = 18, DIGIT_WIRES = 649 };
 
 static uint8_t *records, *outs, *digests, *assignments, *rights, *claims; /* a room for each */
 
-static unsigned long seen[20]; /* calls by refusal, 0 for none */
+static unsigned long seen[21]; /* calls by refusal, 0 for none */
 
 /* ---- Records and bounds ---- */
 
@@ -129,7 +129,7 @@ static uint64_t row_for(struct bounds bounds, uint64_t number, uint8_t out[SM3RO
 
 /* ---- Rows ---- */
 
-/* A sum of a row on an assignment; then `at` is where its terms end. */
+/* A sum of a row on an assignment, whose entries are below p; then `at` is where its terms end. */
 static uint64_t sum(const uint8_t **at, unsigned count, const uint8_t *assignment)
 {
     unsigned __int128 sum = 0;
@@ -138,7 +138,7 @@ static uint64_t sum(const uint8_t **at, unsigned count, const uint8_t *assignmen
         uint64_t coefficient;
         memcpy(&wire, *at, 4);
         memcpy(&coefficient, *at + 4, 8);
-        sum = (sum + (unsigned __int128)coefficient * (entry(assignment, wire) % P)) % P;
+        sum = (sum + (unsigned __int128)coefficient * entry(assignment, wire)) % P;
     }
     return (uint64_t)sum;
 }
@@ -305,16 +305,16 @@ static void take_claim(struct input *in, struct bounds own, uint8_t record[RECOR
     sealed[at] ^= other;
 }
 
-/* What the paper says of the claim under these bounds, if its sizes are right. With so few changes no other record's
- * claim comes out; the same record's under these bounds may. */
-static unsigned claim_refusal(struct bounds bounds, const uint8_t *record, const uint8_t *sealed)
+/* What the paper says of the claim under these bounds, if its sizes are right; of 9 without the row. What is accepted is
+ * the record's, byte for byte. With so few changes no other record's claim comes out; the same record's under these bounds
+ * may. */
+static uint64_t claim_answer(struct bounds bounds, const uint8_t *record, const uint8_t *sealed)
 {
-    int same = produce_for(bounds, record, rights) == 0, same_digest = 1;
-    for (size_t wire = 0; same && wire < WIRES; wire++)
-        same = entry(claims, wire) % P == entry(rights, wire);
+    int same = produce_for(bounds, record, rights) == 0 && memcmp(claims, rights, ASSIGNMENT) == 0, same_digest = 1;
     for (size_t number = 0; number < 8 * DIGEST; number++)
-        same_digest &= entry(claims, 1 + number) % P == bit(sealed, number);
-    return entry(claims, 0) % P != 1 ? 7 : !same_digest ? 8 : same ? 0 : 9;
+        same_digest &= entry(claims, 1 + number) == bit(sealed, number);
+    uint64_t great = not_below(claims, WIRES);
+    return great != 0 ? great : entry(claims, 0) != 1 ? 7 : !same_digest ? 8 : same ? 0 : 9;
 }
 
 /* The row that a check names is not satisfied; the ones just before it are, all the appended ones among them. */
@@ -341,20 +341,20 @@ static void check(struct input *in)
     uint8_t *digest = slice(digests, digest_len, sizes >> 3);
     uint8_t *assignment = slice(assignments, assignment_len, sizes >> 5);
     take_claim(in, own, record, sealed);
-    unsigned refusal = claim_refusal(bounds, record, sealed);
+    uint64_t right = claim_answer(bounds, record, sealed);
     if (bounds_refusal(bounds) != 0)
-        refusal = 18;
+        right = 18;
     else if (digest_len != DIGEST)
-        refusal = 5;
+        right = 5;
     else if (assignment_len != ASSIGNMENT)
-        refusal = 6;
+        right = 6;
     if (digest_len > 0)
         memcpy(digest, sealed, digest_len);
     memcpy(assignment, claims, assignment_len);
     uint64_t answer = sm3rows_axles_check(bounds.lower, bounds.upper, digest, digest_len, assignment, assignment_len);
-    seen[refusal]++;
-    MUST(SM3ROWS_REFUSAL(answer) == refusal && (refusal == 9 || answer == refusal));
-    if (refusal == 9)
+    seen[SM3ROWS_REFUSAL(right)]++;
+    MUST(SM3ROWS_REFUSAL(answer) == SM3ROWS_REFUSAL(right) && (right == 9 || answer == right));
+    if (right == 9)
         is_lowest(bounds, SM3ROWS_FAILING_ROW(answer), assignment);
     MUST(memcmp(assignment, claims, assignment_len) == 0);
     MUST(digest_len == 0 || memcmp(digest, sealed, digest_len) == 0);
@@ -362,7 +362,7 @@ static void check(struct input *in)
 
 static void report(void)
 {
-    static const int refusals[] = {13, 18, 19, 3, 4, 5, 6, 7, 8, 9};
+    static const int refusals[] = {13, 18, 19, 3, 4, 5, 6, 20, 7, 8, 9};
     fprintf(stderr, "axles: %lu calls not refused, refused by", seen[0]);
     for (size_t k = 0; k < sizeof refusals / sizeof *refusals; k++)
         fprintf(stderr, "%s %d: %lu", k > 0 ? "," : "", refusals[k], seen[refusals[k]]);

@@ -50,8 +50,19 @@ uint64_t take_wire(struct input *in, uint64_t wires)
 
 uint64_t take_entry(struct input *in)
 {
-    uint64_t times = take(in, 1) % 16;
-    return times <= 8 ? times * P + take(in, 1) % 4 - 1 : take(in, 8);
+    uint64_t how = take(in, 1), near = take(in, 1) % 4;
+    if (how < 80)
+        return near;
+    if (how < 96)
+        return P / 2 - 1 + near;
+    if (how < 160)
+        return P - 2 + near;
+    if (how < 168)
+        return near - 4;
+    if (how < 176)
+        return (2 + how % 7) * P + near - 1;
+    uint64_t any = take(in, 8);
+    return how < 248 ? any % P : any;
 }
 
 uint8_t *room(void)
@@ -88,6 +99,14 @@ uint64_t entry(const uint8_t *assignment, size_t wire)
     uint64_t value;
     memcpy(&value, assignment + 8 * wire, 8);
     return value;
+}
+
+uint64_t not_below(const uint8_t *assignment, uint64_t wires)
+{
+    for (uint64_t wire = 0; wire < wires; wire++)
+        if (entry(assignment, wire) >= P)
+            return 20 | wire << 8;
+    return 0;
 }
 
 uint64_t bit(const uint8_t *bytes, size_t number)

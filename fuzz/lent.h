@@ -25,7 +25,8 @@ size_t take_size(struct input *in, int near, size_t exact);
 /* A wire below so many: one of the first 257, one of the last 8, or any. */
 uint64_t take_wire(struct input *in, uint64_t wires);
 
-/* An entry: a number beside a multiple of p, or any. */
+/* An entry: one of the first numbers; one beside 2^60, beside p, below 2^64 or beside a greater multiple of p; or any,
+ * mostly below p. */
 uint64_t take_entry(struct input *in);
 
 /* ---- Slices between pages that cannot be touched. ---- */
@@ -43,11 +44,15 @@ int filled(const uint8_t *bytes, size_t length);
 
 /* ---- What is read in a slice ---- */
 
-/* Entries are read modulo this prime. */
+/* The prime that every entry is below. */
 static const uint64_t P = ((uint64_t)1 << 61) - 1;
 
 /* A wire's entry of an assignment. */
 uint64_t entry(const uint8_t *assignment, size_t wire);
+
+/* What a check and packing answer where one of so many entries is p or more: 20, the lowest such wire from bit 8 on. 0 where
+ * all are below p. */
+uint64_t not_below(const uint8_t *assignment, uint64_t wires);
 
 /* A bit of a record, of a digest or of packed bytes, the highest of a byte first. */
 uint64_t bit(const uint8_t *bytes, size_t number);

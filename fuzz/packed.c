@@ -69,7 +69,9 @@ static unsigned refusal(const uint8_t *bytes, size_t size)
     if (bytes[size - 1] & 0x7f)
         return 12;
     unpack(bytes + begin, entries, SM3ROWS_WIRES(bits));
-    return SM3ROWS_REFUSAL(sm3rows_check(bits, digest, sizeof digest, entries, SM3ROWS_ASSIGNMENT_BYTES(bits)));
+    uint64_t answer = sm3rows_check(bits, digest, sizeof digest, entries, SM3ROWS_ASSIGNMENT_BYTES(bits));
+    MUST(SM3ROWS_REFUSAL(answer) != 20); /* of a bit an entry below p comes */
+    return SM3ROWS_REFUSAL(answer);
 }
 
 /* ---- One run ---- */

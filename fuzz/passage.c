@@ -17,7 +17,7 @@ enum { DIGEST = PASSAGE_DIGEST_BYTES, ASSIGNMENT = PASSAGE_ASSIGNMENT_BYTES };
 
 static uint8_t *lines, *plates, *blinds, *outs, *digests, *assignments, *rights; /* a room for each */
 
-static unsigned long seen[18]; /* calls by refusal, 0 for none */
+static unsigned long seen[21]; /* calls by refusal, 0 for none */
 
 /* ---- Lines and their fields ---- */
 
@@ -267,14 +267,23 @@ static void seal(struct input *in)
         is_sealed(lent, digest, assignment);
 }
 
-/* An entry takes another value, mostly one beside a multiple of p. */
+/* An entry takes another value. */
 static void change_entry(struct input *in, uint8_t *assignment, size_t size)
 {
     uint64_t wire = take(in, 1) % 4 == 0 ? take(in, 2) % 257 : take(in, 3), value = take_entry(in);
     memcpy(assignment + 8 * (wire % (size / 8)), &value, 8);
 }
 
-/* A line's claim, up to 3 of its entries and a byte of its digest changed: as the row library's check for 504 bits. */
+/* What is said of a claim's sizes and of its entries of p or more; 0 where they are right. */
+static uint64_t answer_to_entries(size_t digest_len, const uint8_t *assignment, size_t assignment_len)
+{
+    if (digest_len != DIGEST)
+        return 5;
+    return assignment_len != ASSIGNMENT ? 6 : not_below(assignment, ASSIGNMENT / 8);
+}
+
+/* A line's claim, up to 3 of its entries and a byte of its digest changed: as the row library's check for 504 bits. What
+ * is accepted is the line's, byte for byte: with so few changes no other record's comes out. */
 static void check(struct input *in)
 {
     uint8_t line[LINE], sealed[256] = {0};
@@ -294,18 +303,22 @@ static void check(struct input *in)
         memcpy(digest, sealed, digest_len);
     memcpy(assignment, rights, assignment_len);
     uint64_t answer = passage_check(digest, digest_len, assignment, assignment_len);
+    uint64_t right = answer_to_entries(digest_len, assignment, assignment_len);
     unsigned refusal = PASSAGE_REFUSAL(answer);
     count(answer);
     MUST(answer == sm3rows_check(PASSAGE_BITS, digest, digest_len, assignment, assignment_len));
-    MUST(refusal == 0 || (refusal >= 5 && refusal <= 9));
-    MUST(refusal == 9 ? PASSAGE_FAILING_ROW(answer) < SM3ROWS_ROWS(PASSAGE_BITS) : answer == refusal);
+    MUST(right != 0 ? answer == right : refusal == 0 || (refusal >= 7 && refusal <= 9));
+    MUST(right != 0 || (refusal == 9 ? PASSAGE_FAILING_ROW(answer) < SM3ROWS_ROWS(PASSAGE_BITS) : answer == refusal));
     MUST(memcmp(assignment, rights, assignment_len) == 0);
     MUST(digest_len == 0 || memcmp(digest, sealed, digest_len) == 0);
+    if (answer == 0)
+        MUST(sm3rows_produce(PASSAGE_BITS, line, LINE, rights, ASSIGNMENT) == 0 &&
+             memcmp(assignment, rights, ASSIGNMENT) == 0);
 }
 
 static void report(void)
 {
-    static const int refusals[] = {15, 16, 17, 4, 5, 6, 7, 8, 9};
+    static const int refusals[] = {15, 16, 17, 4, 5, 6, 20, 7, 8, 9};
     fprintf(stderr, "passage: %lu calls not refused, refused by", seen[0]);
     for (size_t k = 0; k < sizeof refusals / sizeof *refusals; k++)
         fprintf(stderr, "%s %d: %lu", k > 0 ? "," : "", refusals[k], seen[refusals[k]]);

@@ -48,8 +48,8 @@ build line "$root/fuzz/program.c" "$work/rows.o" "$work/steps.o"
 build packed "$root/fuzz/program.c" "$work/packed.o" "$archive"
 
 # One input for each function, some for records of 37, 447, 448 and 8,127 bits and for their refusals, some for axles
-# outside their bounds and claims for other bounds, and some lines, to begin with; claims to `packed` are made by its
-# harness.
+# outside their bounds and claims for other bounds, some claims with an entry p - 1, p, p + 1 or 2^64 - 1, and some lines,
+# to begin with; claims to `packed` are made by its harness.
 mkdir -p "$work/entry.corpus" "$work/axles.corpus" "$work/passage.corpus" "$work/line.corpus" "$work/packed.corpus"
 printf '\000\000\000\030\000\040\000\000\000abcabc' > "$work/entry.corpus/digest"
 printf '\000\000\000\045\000\040\000\000\000abcde' > "$work/entry.corpus/inside"
@@ -61,9 +61,13 @@ printf '\002\000\000\045\000\200\000\000\000abcde' > "$work/entry.corpus/produce
 printf '\002\161\007\000\200\000\000\000abcde' > "$work/entry.corpus/one-block"
 printf '\002\161\010\000\200\000\000\000abcde' > "$work/entry.corpus/two-blocks"
 printf '\002\166\007\000\200\000\000\000abcde' > "$work/entry.corpus/longest"
-printf '\003\000\000\045\000\001\000\000\002\001\000\003abcabc' > "$work/entry.corpus/check"
-printf '\004\000\000\045\000\001\000\000\002\001\000\003abcabc' > "$work/entry.corpus/pack"
+printf '\003\000\000\045\000\001\000\000\002\001\000\002abcabc' > "$work/entry.corpus/check"
+printf '\004\000\000\045\000\001\000\000\002\001\000\002abcabc' > "$work/entry.corpus/pack"
 printf '\005\000\000\045\000\005\200\000' > "$work/entry.corpus/unpack"
+# Two entries changed: a 2 or wire 0 in front of one that is p, and p in front of 2^64 - 1.
+printf '\004\000\000\045\000\002\000\000\000\003\000\002\000\000\002\001\140\002abcabc' > "$work/entry.corpus/pack-both"
+printf '\003\000\000\045\000\002\000\000\000\000\000\000\200\000\000\000\140\002abcabc' > "$work/entry.corpus/wire-0"
+printf '\003\000\000\045\000\002\000\000\002\001\140\002\200\000\000\000\240\003abcabc' > "$work/entry.corpus/lowest"
 printf '\000\000\003\000\002\003\041\000\000abc' > "$work/axles.corpus/row"
 printf '\000\000\003\000\002\003\140\240\000\000abc' > "$work/axles.corpus/no-row"
 printf '\001\000\003\000\002\003\000\000abc' > "$work/axles.corpus/produce"
@@ -73,7 +77,7 @@ printf '\001\000\003\000\000\003\000\000abc' > "$work/axles.corpus/outside"
 printf '\001\341\003\000\002\003\000\000abc' > "$work/axles.corpus/no-digit"
 printf '\002\000\003\000\002\003\000\000abc' > "$work/axles.corpus/check"
 printf '\002\000\003\000\002\003\001\000\001\003\000abc' > "$work/axles.corpus/other-bounds"
-printf '\002\000\003\000\002\003\001\000\001\003\001\120\000\001abc' > "$work/axles.corpus/made-to-fit"
+printf '\002\000\003\000\002\003\001\000\001\003\001\120\000\000abc' > "$work/axles.corpus/made-to-fit"
 printf '\002\000\363\002\000\002\003\000\000abc' > "$work/axles.corpus/high-half"
 printf '\000\000\004abcdefghijklmnopqrstuvwxyz0123456789' > "$work/passage.corpus/read"
 printf '\000\206\004abcdefghijklmnopqrstuvwxyz0123456789' > "$work/passage.corpus/wrong"
@@ -81,6 +85,15 @@ printf '\001\000\000\004abcdefghijklmnopqrstuvwxyz0123456789' > "$work/passage.c
 printf '\002\000\000\004abcdefghijklmnopqrstuvwxyz0123456789' > "$work/passage.corpus/seal"
 printf '\003\000\000\004abcdefghijklmnopqrstuvwxyz0123456789' > "$work/passage.corpus/check"
 printf '\003\000\002\004abcdefghijklmnopqrstuvwxyz0123456789' > "$work/passage.corpus/changed"
+# An entry in two bytes: p - 1, p, p + 1, 2^64 - 1.
+number=0
+for value in '\0140\0001' '\0140\0002' '\0140\0003' '\0240\0003'; do
+    number=$((number + 1))
+    printf '\003\000\000\045\000\001\000\000\002\001%babcabc' "$value" > "$work/entry.corpus/check-entry-$number"
+    printf '\004\000\000\045\000\001\000\000\002\001%babcabc' "$value" > "$work/entry.corpus/pack-entry-$number"
+    printf '\002\000\003\000\002\003\000\001\120%babc' "$value" > "$work/axles.corpus/entry-$number"
+    printf '\003\000\001\004%061d\001\000\002\001%b' 0 "$value" > "$work/passage.corpus/entry-$number"
+done
 printf '\000\200\2000,0,2\n' > "$work/line.corpus/rows"
 printf '\001\200\20037,291,4\n' > "$work/line.corpus/steps"
 printf '\000\200\2008128,0,0\n' > "$work/line.corpus/refused"
