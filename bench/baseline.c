@@ -128,13 +128,6 @@ void baseline_produce(size_t bits, const uint8_t *record, uint64_t *out)
 
 static const uint64_t P = ((uint64_t)1 << 61) - 1;
 
-/* 2^61 reads as 1, so the bits from 61 on are added to those below. */
-static inline uint64_t reduce(uint64_t x)
-{
-    x = (x & P) + (x >> 61);
-    return x >= P ? x - P : x;
-}
-
 static inline uint64_t load_entry(const uint8_t *assignment, size_t wire)
 {
     uint64_t entry; /* least byte first, as on the machines that this runs on */
@@ -142,14 +135,38 @@ static inline uint64_t load_entry(const uint8_t *assignment, size_t wire)
     return entry;
 }
 
-/* ---- Packing ---- */
+static inline uint64_t refuse(uint64_t number, size_t wire)
+{
+    return number | (uint64_t)wire << 8;
+}
 
-/* Not above 1 where each of eight entries stands as the number 0 or 1. */
+/* Eight entries put together by `or`: none of them is above it. */
 static inline uint64_t any_of_eight(const uint8_t *entries)
 {
     return load_entry(entries, 0) | load_entry(entries, 1) | load_entry(entries, 2) | load_entry(entries, 3) |
            load_entry(entries, 4) | load_entry(entries, 5) | load_entry(entries, 6) | load_entry(entries, 7);
 }
+
+/* The lowest wire from `from` on whose entry is p or more, or `to`. */
+static inline size_t below_to(const uint8_t *assignment, size_t from, size_t to)
+{
+    while (from < to && load_entry(assignment, from) < P)
+        from++;
+    return from;
+}
+
+/* Refusal 20 where an entry from `wire` on is p or more, else 0: eight at a time, and one by one only where that does not
+ * decide. */
+static inline uint64_t test_below(const uint8_t *assignment, size_t wire, size_t wires)
+{
+    for (; wires - wire >= 8; wire += 8)
+        if (any_of_eight(assignment + 8 * wire) >= P && below_to(assignment, wire, wire + 8) < wire + 8)
+            break;
+    wire = below_to(assignment, wire, wires);
+    return wire < wires ? refuse(20, wire) : 0;
+}
+
+/* ---- Packing ---- */
 
 /* Eight such entries as a byte, in one step: quicker than a loop. */
 static inline uint8_t join_eight(const uint8_t *entries)
@@ -164,28 +181,27 @@ static inline uint8_t join_eight(const uint8_t *entries)
     return (uint8_t)(2 * byte + load_entry(entries, 7));
 }
 
-/* Eight entries that read as bits, as a byte. */
-static inline uint8_t join_reduced(const uint8_t *entries)
+/* Refusal 20 or 10 of an assignment whose entries before `from` are bits, and of those from there on one is not. */
+static uint64_t refuse_to_pack(const uint8_t *assignment, size_t from, size_t wires)
 {
-    uint64_t byte = 0;
-    for (size_t k = 0; k < 8; k++)
-        byte = 2 * byte + reduce(load_entry(entries, k));
-    return (uint8_t)byte;
+    uint64_t refusal = test_below(assignment, from, wires);
+    if (refusal != 0)
+        return refusal;
+    while (load_entry(assignment, from) <= 1)
+        from++;
+    return refuse(10, from);
 }
 
 uint64_t baseline_pack(size_t wires, const uint8_t *assignment, uint8_t *out)
 {
-    size_t last = wires - 1, plain = 0, wire;
-    while (plain < last && any_of_eight(assignment + 8 * plain) <= 1)
-        plain += 8;
-    for (wire = plain; wire < wires; wire++)
-        if (reduce(load_entry(assignment, wire)) > 1)
-            return 10 | (uint64_t)wire << 8;
-    for (wire = 0; wire < plain; wire += 8)
+    size_t last = wires - 1, bits = 0;
+    while (bits < last && any_of_eight(assignment + 8 * bits) <= 1)
+        bits += 8;
+    if (bits < last || load_entry(assignment, last) > 1)
+        return refuse_to_pack(assignment, bits, wires);
+    for (size_t wire = 0; wire < last; wire += 8)
         *out++ = join_eight(assignment + 8 * wire);
-    for (; wire < last; wire += 8)
-        *out++ = join_reduced(assignment + 8 * wire);
-    *out = (uint8_t)(reduce(load_entry(assignment, last)) << 7);
+    *out = (uint8_t)(load_entry(assignment, last) << 7);
     return 0;
 }
 
@@ -194,19 +210,13 @@ uint64_t baseline_pack_copied(size_t wires, const uint8_t *assignment, uint8_t *
     uint8_t packed[BASELINE_PACKED_MOST];
     size_t last = wires - 1;
     for (size_t wire = 0; wire < last; wire += 8) {
-        if (any_of_eight(assignment + 8 * wire) <= 1) {
-            packed[wire / 8] = join_eight(assignment + 8 * wire);
-            continue;
-        }
-        for (size_t next = wire; next < wire + 8; next++)
-            if (reduce(load_entry(assignment, next)) > 1)
-                return 10 | (uint64_t)next << 8;
-        packed[wire / 8] = join_reduced(assignment + 8 * wire);
+        if (any_of_eight(assignment + 8 * wire) > 1)
+            return refuse_to_pack(assignment, wire, wires);
+        packed[wire / 8] = join_eight(assignment + 8 * wire);
     }
-    uint64_t value = reduce(load_entry(assignment, last));
-    if (value > 1)
-        return 10 | (uint64_t)last << 8;
-    packed[last / 8] = (uint8_t)(value << 7);
+    if (load_entry(assignment, last) > 1)
+        return refuse_to_pack(assignment, last, wires);
+    packed[last / 8] = (uint8_t)(load_entry(assignment, last) << 7);
     memcpy(out, packed, last / 8 + 1);
     return 0;
 }
@@ -228,44 +238,56 @@ uint64_t baseline_unpack(size_t wires, const uint8_t *packed, size_t packed_len,
 
 typedef unsigned __int128 wide;
 
+/* 2^61 is 1 modulo p, so the bits from 61 on are added to those below: the same number modulo p, below 2^62 + 2^6. */
+static inline uint64_t fold_wide(wide x)
+{
+    return ((uint64_t)x & P) + ((uint64_t)(x >> 61) & P) + (uint64_t)(x >> 122);
+}
+
 static inline uint64_t reduce_wide(wide x)
 {
-    uint64_t low = (uint64_t)x & P;
-    uint64_t middle = (uint64_t)(x >> 61) & P;
-    uint64_t high = (uint64_t)(x >> 122);
-    return reduce(low + middle + high);
+    uint64_t sum = fold_wide(x);
+    sum = (sum & P) + (sum >> 61);
+    return sum >= P ? sum - P : sum;
 }
 
-/* A product of two numbers below p is below 2^122, so 32 of them and a number below p fit in 128 bits. */
-static inline uint64_t evaluate(const struct baseline_rows *matrix, const uint64_t *values, uint32_t from, uint32_t to)
+static inline wide add_terms(wide total, const struct baseline_rows *matrix, const uint8_t *assignment, uint32_t from,
+                             uint32_t to)
 {
-    uint64_t sum = 0;
-    while (from < to) {
-        uint32_t stop = to - from > 32 ? from + 32 : to;
-        wide total = sum;
-        for (; from < stop; from++)
-            total += (wide)matrix->coefficient[from] * values[matrix->wire[from]];
-        sum = reduce_wide(total);
-    }
-    return sum;
+    for (; from < to; from++)
+        total += (wide)matrix->coefficient[from] * load_entry(assignment, matrix->wire[from]);
+    return total;
 }
 
-uint64_t baseline_check(const struct baseline_rows *matrix, const uint8_t digest[32], const uint8_t *assignment,
-                        uint64_t *values)
+/* A sum of the row, folded. A product of two numbers below p is below 2^122, so 63 of them and a folded number fit in 128
+ * bits. */
+static inline uint64_t evaluate(const struct baseline_rows *matrix, const uint8_t *assignment, uint32_t from,
+                                uint32_t to)
 {
-    for (size_t wire = 0; wire < matrix->wires; wire++)
-        values[wire] = reduce(load_entry(assignment, wire));
-    if (values[0] != 1)
+    wide total = 0;
+    if (from == to)
+        return 0;
+    for (; to - from > 63; from += 63)
+        total = fold_wide(add_terms(total, matrix, assignment, from, from + 63));
+    return fold_wide(add_terms(total, matrix, assignment, from, to));
+}
+
+uint64_t baseline_check(const struct baseline_rows *matrix, const uint8_t digest[32], const uint8_t *assignment)
+{
+    uint64_t refusal = test_below(assignment, 0, matrix->wires);
+    if (refusal != 0)
+        return refusal;
+    if (load_entry(assignment, 0) != 1)
         return 7;
     for (int bit = 0; bit < 256; bit++)
-        if (values[1 + bit] != (uint64_t)(digest[bit / 8] >> (7 - bit % 8) & 1))
+        if (load_entry(assignment, 1 + bit) != (uint64_t)(digest[bit / 8] >> (7 - bit % 8) & 1))
             return 8;
     for (size_t row = 0; row < matrix->rows; row++) {
         const uint32_t *ends = matrix->ends + 3 * row;
-        uint64_t a = evaluate(matrix, values, ends[0], ends[1]);
-        uint64_t b = evaluate(matrix, values, ends[1], ends[2]);
-        uint64_t c = evaluate(matrix, values, ends[2], ends[3]);
-        if (reduce_wide((wide)a * b) != c)
+        uint64_t a = evaluate(matrix, assignment, ends[0], ends[1]);
+        uint64_t b = evaluate(matrix, assignment, ends[1], ends[2]);
+        uint64_t c = evaluate(matrix, assignment, ends[2], ends[3]);
+        if (reduce_wide((wide)a * b) != reduce_wide(c))
             return 9 | (uint64_t)row << 8;
     }
     return 0;

@@ -10,9 +10,9 @@
  * 8,127 bits, the bits after its last one in its last byte are zero, and out has room for all wires. */
 void baseline_produce(size_t bits, const uint8_t *record, uint64_t *out);
 
-/* Packing of an assignment, `wires` entries of 8 bytes: 0, or 10 with the lowest wire that is no bit from bit 8 on, and
- * then no byte is written. Wires are 32 x k + 1, so one stands alone in the last byte; out has room for 4 x k + 1. The
- * first pass looks for 10, the second writes. */
+/* Packing of an assignment, `wires` entries of 8 bytes: 0; or 20 with the lowest wire whose entry is p or more from bit 8
+ * on, or 10 with the lowest whose entry is no bit, and then no byte is written. Wires are 32 x k + 1, so one stands alone
+ * in the last byte; out has room for 4 x k + 1. The first pass looks for entries that are no bits, the second writes. */
 uint64_t baseline_pack(size_t wires, const uint8_t *assignment, uint8_t *out);
 
 /* The same in one pass, at the price of so much stack: into an array of its own, which is copied at the end. */
@@ -37,9 +37,9 @@ struct baseline_rows {
     const uint64_t *coefficient;
 };
 
-/* The check: 0, or 7, 8, or 9 with the lowest unsatisfied row from bit 8 on. The assignment has `wires` entries of 8
- * bytes; values has room for as many and takes them modulo p. */
-uint64_t baseline_check(const struct baseline_rows *matrix, const uint8_t digest[32], const uint8_t *assignment,
-                        uint64_t *values);
+/* The check: 0; or 20 with the lowest wire whose entry is p or more from bit 8 on, 7, 8, or 9 with the lowest unsatisfied
+ * row from bit 8 on. The assignment has `wires` entries of 8 bytes. Once all are found below p they are multiplied as they
+ * stand. */
+uint64_t baseline_check(const struct baseline_rows *matrix, const uint8_t digest[32], const uint8_t *assignment);
 
 #endif

@@ -5,10 +5,11 @@
 use std::cell::RefCell;
 
 use host::Empty;
+use judge::field::P;
 use judge::record::Record;
 use judge::{layout, sm3};
 
-use crate::measures::{as_bytes, figures, produce_ours, record, OURS};
+use crate::measures::{as_bytes, figures, produce_ours, put_entry, record, OURS};
 use crate::timing::{best, side, Figure};
 
 /// Our side where a function for axles is called.
@@ -161,7 +162,10 @@ pub fn check(runs: u32) -> Vec<Figure> {
     claim[last] ^= 1;
     let failing = 9 | (ROWS - 1) << 8;
     assert_eq!([check_ours(&digest, &claim), theirs(&claim)], [failing, 0]);
-    claim[last] ^= 1;
+    let (wire, own) = (last / 8, u64::from(claim[last] ^ 1));
+    put_entry(&mut claim, wire, P);
+    assert_eq!(check_ours(&digest, &claim), 20 | (wire as u64) << 8);
+    put_entry(&mut claim, wire, own);
     assert_eq!([check_ours(&digest, &claim), theirs(&claim)], [0; 2]);
     let sides = vec![
         side(AXLES, || check_ours(&digest, &claim)),

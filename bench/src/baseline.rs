@@ -35,7 +35,6 @@ extern "C" {
         matrix: *const RowsOfC,
         digest: *const [u8; 32],
         assignment: *const u8,
-        values: *mut u64,
     ) -> u64;
 }
 
@@ -100,7 +99,6 @@ pub struct Matrix {
     ends: Vec<u32>,
     wire: Vec<u32>,
     coefficient: Vec<u64>,
-    values: Vec<u64>,
 }
 
 impl Matrix {
@@ -119,11 +117,10 @@ impl Matrix {
             ends,
             wire,
             coefficient,
-            values: vec![0; length.wires()],
         }
     }
 
-    pub fn check(&mut self, digest: &[u8; 32], assignment: &[u8]) -> u64 {
+    pub fn check(&self, digest: &[u8; 32], assignment: &[u8]) -> u64 {
         assert_eq!(assignment.len(), 8 * self.wires);
         let matrix = RowsOfC {
             rows: self.rows,
@@ -132,7 +129,6 @@ impl Matrix {
             wire: self.wire.as_ptr(),
             coefficient: self.coefficient.as_ptr(),
         };
-        let values = self.values.as_mut_ptr();
-        unsafe { baseline_check(&matrix, digest, assignment.as_ptr(), values) }
+        unsafe { baseline_check(&matrix, digest, assignment.as_ptr()) }
     }
 }

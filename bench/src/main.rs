@@ -4,6 +4,7 @@
 
 mod axles;
 mod baseline;
+mod checks;
 mod inside;
 mod libgcrypt;
 mod measures;
@@ -75,7 +76,8 @@ fn target(measure: &str, side: &str) -> Option<f64> {
         ("digest" | "digest-inside", "openssl") => Some(0.9),
         ("digest" | "digest-inside", "libgcrypt") => Some(1.1),
         ("produce" | "produce-inside", "c-loop") => Some(1.5),
-        ("check", "c-sparse") => Some(0.25),
+        ("check" | "check-refused", "c-sparse") => Some(0.25),
+        (hostile, "c-sparse") if hostile.starts_with("check-hostile") => Some(0.25),
         ("pack" | "unpack", "c-loop") => Some(1.0),
         _ => None,
     }
@@ -217,18 +219,31 @@ fn measure_all(runs: u32) -> Vec<Figure> {
     ];
     producing.into_iter().flatten().for_each(&mut take);
     for bits in GROWTH {
-        take(measures::check(bits, runs));
+        take(checks::check(bits, runs));
     }
     for bits in OTHER_CLAIMS {
-        take(measures::check_shifted(bits, runs));
+        take(checks::check_refused(bits, runs));
     }
-    for bits in OTHER_CLAIMS {
-        take(measures::check_refused(bits, runs));
+    for hostile in &checks::HOSTILE {
+        for bits in OTHER_CLAIMS {
+            take(checks::check_hostile(hostile, bits, runs));
+        }
+    }
+    for check in [
+        checks::check_not_below,
+        checks::check_shifted,
+        checks::check_tested,
+    ] {
+        for bits in OTHER_CLAIMS {
+            take(check(bits, runs));
+        }
     }
     let packing = [
         packing::pack(&GROWTH, runs),
         packing::unpack(&GROWTH, runs),
-        packing::pack_shifted(&OTHER_CLAIMS, runs),
+        packing::pack_refused(&OTHER_CLAIMS, runs),
+        packing::pack_not_below(&OTHER_CLAIMS, runs),
+        packing::pack_tested(&OTHER_CLAIMS, runs),
     ];
     packing.into_iter().flatten().for_each(&mut take);
     let axles = [axles::row(runs), axles::produce(runs), axles::check(runs)];

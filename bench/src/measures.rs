@@ -8,15 +8,13 @@ use std::time::Instant;
 
 use host::openssl::{self, Context};
 use host::Empty;
-use judge::check::check_with;
 use judge::field::P;
-use judge::forms::RowTable;
 use judge::length::Length;
 use judge::record::Record;
 use judge::refusal::Refusal;
-use judge::{layout, rows, sm3};
+use judge::{layout, sm3};
 
-use crate::baseline::{self, Matrix};
+use crate::baseline;
 use crate::libgcrypt;
 use crate::timing::{best, side, Figure, Side};
 
@@ -50,11 +48,34 @@ pub fn as_bytes(entries: &[u64]) -> Vec<u8> {
         .collect()
 }
 
-/// Adds p to every entry: each reads as before, but none is the number 0 or 1.
+/// An answer of the judge as the C libraries give it.
+pub fn answer(judged: Result<(), Refusal>) -> u64 {
+    let value = match judged {
+        Err(Refusal::Unsatisfied(row)) => row.0,
+        Err(Refusal::NoBit(wire) | Refusal::NotBelowPrime(wire)) => wire.0,
+        _ => 0,
+    };
+    let number = judged.map_or_else(Refusal::number, |()| 0);
+    u64::from(value) << 8 | u64::from(number)
+}
+
+pub fn put_entry(assignment: &mut [u8], wire: usize, value: u64) {
+    assignment[8 * wire..8 * wire + 8].copy_from_slice(&value.to_le_bytes());
+}
+
+/// Adds p to every entry: the same number modulo p, but none is below p.
 pub fn shift(assignment: &mut [u8]) {
-    for eight in assignment.chunks_exact_mut(8) {
-        let entry = u64::from_le_bytes((&*eight).try_into().expect("eight bytes"));
-        eight.copy_from_slice(&(entry + P).to_le_bytes());
+    for wire in 0..assignment.len() / 8 {
+        let bit = u64::from(assignment[8 * wire]);
+        put_entry(assignment, wire, bit + P);
+    }
+}
+
+/// Makes the entries p - 1 and 1 in turn: each is below p, but two beside each
+/// other, put together by `or`, are p.
+pub fn deceive(assignment: &mut [u8]) {
+    for wire in 0..assignment.len() / 8 {
+        put_entry(assignment, wire, [P - 1, 1][wire % 2]);
     }
 }
 
@@ -180,80 +201,6 @@ pub fn growth(lengths: &[u64], runs: u32) -> Vec<Figure> {
     let times = lengths.iter().zip(best(sides, runs));
     let figure = |(&bits, time)| figures(SAME_MEMORY, bits, &[time]);
     times.flat_map(figure).collect()
-}
-
-/// A record's claim with the rows of its length, as the judge has them and as
-/// the stored sparse matrix.
-struct Claim {
-    length: Length,
-    digest: [u8; 32],
-    assignment: Vec<u8>,
-    table: RowTable,
-    matrix: Matrix,
-}
-
-impl Claim {
-    fn new(bits: u64) -> Claim {
-        let record = record(bits);
-        let length = record.length();
-        let table = rows::rows(length);
-        Claim {
-            length,
-            digest: sm3::hash(&record),
-            assignment: layout::assignment(&record),
-            matrix: Matrix::new(length, &table),
-            table,
-        }
-    }
-
-    /// The check beside the stored sparse matrix on these bytes, and beside
-    /// the judge where it is asked for. All must answer alike.
-    fn measure(mut self, name: &'static str, answer: u64, judge: bool, runs: u32) -> Vec<Figure> {
-        let (bits, digest, assignment) = (self.length.bits() as u64, self.digest, &self.assignment);
-        let ours = || host::check(Empty::Null, bits, &digest, assignment);
-        let judged = || check_with(&self.table, self.length, assignment, &digest);
-        let known = match judged() {
-            Ok(()) => 0,
-            Err(Refusal::Unsatisfied(row)) => 9 | u64::from(row.0) << 8,
-            Err(refusal) => u64::from(refusal.number()),
-        };
-        let theirs = self.matrix.check(&digest, assignment);
-        assert_eq!([ours(), theirs, known], [answer; 3]);
-        let mut sides = vec![
-            side(OURS, ours),
-            side("c-sparse", || self.matrix.check(&digest, assignment)),
-        ];
-        if judge {
-            sides.push(side("judge", judged));
-        }
-        figures(name, bits, &best(sides, runs))
-    }
-}
-
-/// The check of a right assignment, beside the stored sparse matrix in C and
-/// beside the judge.
-pub fn check(bits: u64, runs: u32) -> Vec<Figure> {
-    Claim::new(bits).measure("check", 0, true, runs)
-}
-
-/// The check of a right assignment with p added to every entry, which is
-/// accepted all the same.
-pub fn check_shifted(bits: u64, runs: u32) -> Vec<Figure> {
-    let mut claim = Claim::new(bits);
-    shift(&mut claim.assignment);
-    claim.measure("check-shifted", 0, false, runs)
-}
-
-/// The check of an assignment whose last entry, the lowest bit of the last
-/// block's result, is turned over. The digest wires agree with the digest, and
-/// all rows hold up to the last one of the last block, which ties that bit to
-/// the rounds; 256 digest rows come after it.
-pub fn check_refused(bits: u64, runs: u32) -> Vec<Figure> {
-    let mut claim = Claim::new(bits);
-    let last = claim.assignment.len() - 8;
-    claim.assignment[last] ^= 1;
-    let row = claim.table.count() as u64 - 256 - 1;
-    claim.measure("check-refused", 9 | row << 8, false, runs)
 }
 
 /// All rows of records of 16 blocks by the program `rows`: lines a second.

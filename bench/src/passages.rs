@@ -5,12 +5,13 @@ use std::cell::RefCell;
 
 use host::passage::{self, Numbers};
 use host::Empty;
+use judge::field::P;
 use judge::length::Length;
 use judge::record::Record;
 use judge::{layout, sm3};
 
 use crate::baseline;
-use crate::measures::{figures, OURS};
+use crate::measures::{figures, put_entry, OURS};
 use crate::timing::{best, side, Figure, Side};
 
 /// Our side where a function of the passage product is called.
@@ -388,7 +389,10 @@ pub fn check(runs: u32) -> Vec<Figure> {
     sealed.assignment[last] ^= 1;
     let [ours, theirs] = both(&sealed);
     assert!(ours == theirs && ours & 0xff == 9);
-    sealed.assignment[last] ^= 1;
+    let (wire, own) = (last / 8, u64::from(sealed.assignment[last] ^ 1));
+    put_entry(&mut sealed.assignment, wire, P);
+    assert_eq!(both(&sealed), [20 | (wire as u64) << 8; 2]);
+    put_entry(&mut sealed.assignment, wire, own);
     assert_eq!(both(&sealed), [0; 2]);
     let Sealed { digest, assignment } = &sealed;
     let sides = vec![
