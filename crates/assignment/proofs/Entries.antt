@@ -15,14 +15,7 @@ use Rattle.encoding.proofs.Bytes.{byte-of-number, from-bytes-congruent, from-le
 use Rattle.encoding.proofs.Tab.{getD-tab}
 use Rattle.encoding.specs.Bytes.{Bytes, fromLeastFirst, leastFirst}
 
--- the bytes of n entries are enough to read each
-pub entry-take : (n : ℕ) (bytes : List ℕ) (w : ℕ) → w < n → entry (take (8 * n) bytes) w ≡ entry bytes w
-unfolding entry
-entry-take n bytes w h =
-    from-bytes-congruent 8 (take (8 * n) bytes) bytes (8 * w) (8 * w)
-    (λ i l. getD-take (8 * n) bytes (8 * w + i) 0 (omega arith))
-
--- .. and so are the 8 bytes of its wire
+-- the 8 bytes of its wire are enough to read an entry
 pub entry-of-wire : (a b : List ℕ) (w : ℕ) → wireBytes a w ≡ wireBytes b w → entry a w ≡ entry b w
 unfolding entry wireBytes
 entry-of-wire a b w same = from-wire a ∙ ap (λ l. fromLeastFirst 8 l 0) same ∙ sym (from-wire b)

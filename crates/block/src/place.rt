@@ -30,7 +30,7 @@ const LATE_ROWS: u64 = 297;
 const EARLY_ROUNDS_ROWS: u64 = 16 * EARLY_ROWS;
 
 // All rounds.
-pub const ROUNDS_ROWS: u64 = EARLY_ROUNDS_ROWS + 48 * LATE_ROWS;
+const ROUNDS_ROWS: u64 = EARLY_ROUNDS_ROWS + 48 * LATE_ROWS;
 
 // How many rows of a block's rounds stand before round j.
 pub fn rows_before_round(j: u64) -> u64

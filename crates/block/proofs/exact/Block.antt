@@ -1,6 +1,6 @@
 -- A block's rows hold exactly where its wires agree. The words that it begins with are carried and its 512 bits agree; then
 -- come the expansion, the words W', the rounds and the results, each given those before it. So the rows up to some word of the
--- expansion, or up to some round, hold where the wires before it agree, whatever the later ones are.
+-- expansion, up to some W' or up to some round hold where the wires before it agree, whatever the later ones are.
 use mathlib.Core.Logic.{_↔_}
 use mathlib.Core.Path.{subst, sym}
 use Prim.Native.Nat.{ℕ, _+_, _*_, _<_, _≤_}
@@ -51,7 +51,7 @@ module _ (a : ℕ → ℕ) (J : Judged a) (F : ℕ) (v : StatePosition) (B : Sta
         then-at a (F + expansionAt) (F + pairsAt) 9984 21824 4992 17024 _ _ _ _ (omega arith) (expansion-run a J F b bits given 52 (lit≤ tt))
         (λ expanded.
         let words = words-carried a J F b bits given expanded in
-        then-at a (F + pairsAt) (F + roundsAt) 2048 19776 2048 14976 _ _ _ _ (omega arith) (pairs-run a J F (expansion b 68) words)
+        then-at a (F + pairsAt) (F + roundsAt) 2048 19776 2048 14976 _ _ _ _ (omega arith) (pairs-run a J F (expansion b 68) words 64 (lit≤ tt))
         (λ paired.
         let pairs = pairs-carried a J F (expansion b 68) words paired in
         then-at a (F + roundsAt) (F + resultAt) 19520 256 14720 256 _ _ _ _ (omega arith)
@@ -67,7 +67,18 @@ module _ (a : ℕ → ℕ) (J : Judged a) (F : ℕ) (v : StatePosition) (B : Sta
         subst (λ n. Holds a n (blockForms F v)) (mul-comm c 192)
         (holds-first a (c * 192) 9984 _ _ (omega arith) .1 (expansion-run a J F b bits given c l .1 expanded))
 
-    -- .. and, with the whole expansion and the words W', those of the first c rounds
+    -- .. and, with the whole expansion, those of the first c words W'
+    pub pairs-hold : Agree a (F + expansionAt) (52 * expansionWidth) (grid expansionWidth (λ j. expansionWires (expansion b 68) (16 + j)))
+        → (c : ℕ) → c ≤ 64
+        → Agree a (F + pairsAt) (c * 32) (grid 32 (λ j. wordWires (pairWord (expansion b 68) j)))
+        → Holds a (9984 + c * 32) (blockForms F v)
+    unfolding blockForms
+    pairs-hold expanded c l paired =
+        holds-then a 9984 (c * 32) _ _ (expansion-run a J F b bits given 52 (lit≤ tt) .1 expanded)
+        (holds-first a (c * 32) 2048 _ _ (omega arith) .1
+        (pairs-run a J F (expansion b 68) (words-carried a J F b bits given expanded) c l .1 paired))
+
+    -- .. and, with the words W', those of the first c rounds
     pub rounds-hold : Agree a (F + expansionAt) (52 * expansionWidth) (grid expansionWidth (λ j. expansionWires (expansion b 68) (16 + j)))
         → Agree a (F + pairsAt) 2048 (grid 32 (λ j. wordWires (pairWord (expansion b 68) j)))
         → (c : ℕ) → c ≤ 64
@@ -79,7 +90,7 @@ module _ (a : ℕ → ℕ) (J : Judged a) (F : ℕ) (v : StatePosition) (B : Sta
         let pairs = pairs-carried a J F (expansion b 68) words paired in
         subst (λ n. Holds a n (blockForms F v)) (sym (add-assoc 9984 2048 (rowsBeforeRound c)))
         (holds-then a 9984 (2048 + rowsBeforeRound c) _ _ (expansion-run a J F b bits given 52 (lit≤ tt) .1 expanded)
-        (holds-then a 2048 (rowsBeforeRound c) _ _ (pairs-run a J F (expansion b 68) words .1 paired)
+        (holds-then a 2048 (rowsBeforeRound c) _ _ (pairs-run a J F (expansion b 68) words 64 (lit≤ tt) .1 paired)
         (holds-first a (rowsBeforeRound c) 19520 _ _ (rowsBeforeRound-le c l) .1
         (rounds-run a J F (expansion b 68) words pairs v B begun c l .1 rounded))))
 

@@ -116,8 +116,10 @@ module _ (a : ℕ → ℕ) (J : Judged a) (F : ℕ) (w : List ℕ) (words : (j :
   unfolding wPrimeForm pairWord
   makes-pair j l = makes-xor-two a J (words j (omega arith)) (words (j + 4) (omega arith)) (wPrimeFirst F j)
 
-  pub pairs-run : Holds a 2048 (grid 32 (wPrimeForm F)) ↔ Agree a (F + pairsAt) (64 * 32) (grid 32 (λ j. wordWires (pairWord w j)))
-  pairs-run = each a (F + pairsAt) 64 32 32 _ _ (λ j l earlier. makes-pair j l .run)
+  -- the first c words
+  pub pairs-run : (c : ℕ) → c ≤ 64
+      → (Holds a (c * 32) (grid 32 (wPrimeForm F)) ↔ Agree a (F + pairsAt) (c * 32) (grid 32 (λ j. wordWires (pairWord w j))))
+  pairs-run c m = each a (F + pairsAt) c 32 32 _ _ (λ j l earlier. makes-pair j (omega arith) .run)
 
   pub pairs-carried : Agree a (F + pairsAt) (64 * 32) (grid 32 (λ j. wordWires (pairWord w j)))
       → (j : ℕ) → j < 64 → Carries a (standing (wPrimeFirst F j)) (pairWord w j)

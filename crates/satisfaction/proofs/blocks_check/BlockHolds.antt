@@ -9,12 +9,12 @@ use native.Mathlib.Omega.{arith}
 use lib.Dec.{lit<, lit≤}
 use Rattle.assignment.specs.Assignment.{entry}
 use Rattle.assignment.specs.Bounded.{BelowPrime}
-use Rattle.block.proofs.exact.Block.{block-run, blockForms, expanded-hold, rounds-hold}
+use Rattle.block.proofs.exact.Block.{block-run, blockForms, expanded-hold, pairs-hold, rounds-hold}
 use Rattle.block.proofs.exact.BlockRounds.{rowsBeforeRound-le}
 use Rattle.block.proofs.exact.States.{CarriesState, carries-eight}
-use Rattle.block.specs.BlockWires.{computedWires, expansionWires, roundWires, stateWires}
+use Rattle.block.specs.BlockWires.{computedWires, expansionWires, stateWires}
 use Rattle.block.specs.Steps.{blockRows, computedRows, rowsBeforeRound}
-use Rattle.block.specs.Wires.{eightFrom, expansionAt, expansionWidth, pairsAt, resultAt, roundWidth, roundsAt}
+use Rattle.block.specs.Wires.{expansionAt, expansionWidth, pairsAt, resultAt, roundsAt}
 use Rattle.block.specs.declared.step.Step.the-variants.{Message}
 use Rattle.circuit.proofs.exact.Frame.{block-row}
 use Rattle.circuit.proofs.exact.Messages.{message-run}
@@ -34,13 +34,13 @@ use Rattle.forms.specs.WordWires.{wordWires}
 use Rattle.forms.specs.declared.form.Form.{Form}
 use Rattle.satisfaction.proofs.Agreeing.{agrees-rows, agrees-then, bits-agree, bits-lt}
 use Rattle.satisfaction.proofs.Lowest.{lowest-all}
-use Rattle.satisfaction.specs.Agrees.{Agrees, BitsOfState, Padded}
+use Rattle.satisfaction.specs.Agrees.{Agrees, BitsOfState, Padded, PastExpansion, to-end, to-round, to-word}
 use Rattle.satisfaction.specs.Lowest.{lowest}
 use Rattle.satisfaction.specs.declared.rows_check.Verdict.the-variants.{AllSatisfied}
 use Rattle.sm3.proofs.Bounds.{Words}
 use Rattle.sm3.proofs.message.MessageBits.{message-content, message-padding}
 use Rattle.sm3.specs.Message.{blockBits, message}
-use Rattle.sm3.specs.Sm3.{block, expansion, pairWord, rounds, wordOf, xorState}
+use Rattle.sm3.specs.Sm3.{block, expansion, wordOf}
 use Rattle.sm3.specs.declared.state.State.{State}
 
 state-words : (s : State) → ((k : ℕ) → k < 8 → wordOf s k < 2 ^ 32) → Words s
@@ -56,6 +56,12 @@ state-words s h =
       g = h 6 (lit< tt);
       h = h 7 (lit< tt);
     }
+
+-- past its expansion a block has 21,824 rows
+pub past-few : {F : ℕ} {x bytes : List ℕ} {v : State} {r : ℕ} → PastExpansion F x v bytes r → r ≤ 21824
+past-few (to-word c few paired e) = omega arith
+past-few (to-round c few paired rounded e) = omega (arith, rowsBeforeRound-le c few)
+past-few (to-end paired rounded result e) = omega arith
 
 -- a wire of the content that is a bit satisfies its row
 content-holds : (a : ℕ → ℕ) → Judged a → (C : Circuit) (w : ℕ) → a w < 2 → Satisfied a (rowOf (contentForm C (record { 0 = w })))
@@ -132,22 +138,27 @@ module _ (bytes : List ℕ) (one : entry bytes 0 ≡ 1) (below : BelowPrime byte
           computed-passed (192 * c) (omega arith)
           (expanded-hold (entry bytes) judged F _ v carried _ bits (λ k h. refl) c few (agrees .entries))
 
-      module _ (expanded : Agrees (F + expansionAt) (52 * expansionWidth) (grid expansionWidth (λ j. expansionWires words (16 + j))) bytes)
-          (paired : Agrees (F + pairsAt) 2048 (grid 32 (λ j. wordWires (pairWord words j))) bytes) where
-        -- .. and those of the first c rounds
-        pub rounds-passed : (c : ℕ) → c ≤ 64 → Agrees (F + roundsAt) (c * roundWidth) (grid roundWidth (λ j. roundWires words j (rounds words v j))) bytes
-            → lowest (entry bytes) (rowAt C) (first + 512) (9984 + 2048 + rowsBeforeRound c) ≡ AllSatisfied
-        rounds-passed c few agrees =
-            computed-passed (9984 + 2048 + rowsBeforeRound c) (omega (arith, rowsBeforeRound-le c few))
-            (rounds-hold (entry bytes) judged F _ v carried _ bits (λ k h. refl) (expanded .entries) (paired .entries) c few (agrees .entries))
+      -- .. of the whole expansion, and of those past it as far as the wires agree
+      module _ (expanded : Agrees (F + expansionAt) (52 * expansionWidth) (grid expansionWidth (λ j. expansionWires words (16 + j))) bytes) where
+        rows-hold : (n r : ℕ) → n ≡ 9984 + r → Holds (entry bytes) n (blockForms F (begins (messageOf C i) i)) → r ≤ 21824
+            → lowest (entry bytes) (rowAt C) (first + 512) (9984 + r) ≡ AllSatisfied
+        rows-hold n r e holds room =
+            subst (λ n. lowest (entry bytes) (rowAt C) (first + 512) n ≡ AllSatisfied) e (computed-passed n (omega arith) holds)
 
-        -- .. and those of the result: all
-        pub block-passed : Agrees (F + roundsAt) (64 * roundWidth) (grid roundWidth (λ j. roundWires words j (rounds words v j))) bytes
-            → Agrees (F + resultAt) 256 (stateWires (xorState (rounds words v 64) v)) bytes
-            → lowest (entry bytes) (rowAt C) (first + 512) computedRows ≡ AllSatisfied
+        pub past-expansion : {r : ℕ} → PastExpansion F words v bytes r
+            → lowest (entry bytes) (rowAt C) (first + 512) (9984 + r) ≡ AllSatisfied
         unfolding block computedWires
-        block-passed rounded result =
-            computed-passed computedRows (lit≤ tt)
+        past-expansion {r} (to-word c few paired e) =
+            rows-hold (9984 + c * 32) r (omega arith)
+            (pairs-hold (entry bytes) judged F _ v carried _ bits (λ k h. refl) (expanded .entries) c few (paired .entries))
+            (past-few {v = v} (to-word c few paired e))
+        past-expansion {r} (to-round c few paired rounded e) =
+            rows-hold (9984 + 2048 + rowsBeforeRound c) r (omega arith)
+            (rounds-hold (entry bytes) judged F _ v carried _ bits (λ k h. refl) (expanded .entries) (paired .entries) c few (rounded .entries))
+            (past-few {v = v} (to-round c few paired rounded e))
+        past-expansion {r} (to-end paired rounded result e) =
+            rows-hold computedRows r (omega arith)
             (block-run (entry bytes) judged F _ v carried _ bits (λ k h. refl) .1
             (agrees-then (F + pairsAt) (omega arith) expanded
             (agrees-then (F + roundsAt) (omega arith) paired (agrees-then (F + resultAt) (omega arith) rounded result)) .entries))
+            (past-few {v = v} (to-end paired rounded result e))

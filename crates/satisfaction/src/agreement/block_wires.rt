@@ -5,16 +5,18 @@ ghost use lib.ListN.{length};
 ghost use Rattle.assignment.specs.Assignment.{entry};
 ghost use Rattle.assignment.specs.Bounded.{BelowPrime};
 ghost use Rattle.block.specs.Steps.{blockRows, computedRows};
+ghost use Rattle.block.specs.Wires.{wiresPerBlock};
 ghost use Rattle.circuit.specs.Circuit.{rowAt};
 ghost use Rattle.circuit.specs.Circuits.{blockCount};
 ghost use Rattle.circuit.specs.Places.{stateRows};
 ghost use Rattle.circuit.specs.Ranges.{Allowed};
 ghost use Rattle.circuit.specs.Wires.{blockFirst, wireCount};
 ghost use Rattle.encoding.specs.Sequence.{tab};
-ghost use Rattle.satisfaction.specs.Agrees.{BitsOfWords};
+ghost use Rattle.satisfaction.specs.Agrees.{BitsOfWords, PastExpansion};
 ghost use Rattle.satisfaction.specs.Lowest.{lowest};
 ghost use Rattle.satisfaction.specs.declared.rows_check.Verdict.the-variants.{AllSatisfied};
 ghost use Rattle.sm3.specs.Sm3.{rotatedConstant};
+ghost use Rattle.sm3.specs.declared.state.State.{State};
 use crate::agreement::expansion::expanded_words_agree;
 use crate::agreement::expansion::pairs_agree;
 use crate::agreement::message::padding_agrees;
@@ -37,13 +39,42 @@ use circuit::circuits::message_of;
 use circuit::wire::beginning;
 use circuit::wire::block_first;
 use refusal::numbers::WireNumber;
+use sm3::state::State;
 use sm3::state::xor_states;
 
 // The rows of the result.
 const RESULT_ROWS: u64 = 8 * 32;
 
+// How many rows of a block past those of its expansion, the words x, hold because its wires are what these and the words v that it begins
+// with make them: up to a word W' or a round whose wires are not.
+fn rows_past_expansion(
+    assignment: &[u8],
+    first: WireNumber,
+    v: State,
+    x: &[u32; 68],
+    t: &[u32; 64],
+) -> u64
+    requires { ⌜ (now t ≡ tab 64 rotatedConstant) × (8 * (first .0 + wiresPerBlock) ≤ length (now assignment)) ⌝ }
+    ensures { λ r. ⌜ PastExpansion (first .0) (now (x .entry)) v (now (assignment .entry)) r ⌝ }
+{
+    let pairs = pairs_agree(assignment, WireNumber(first.0 + PAIRS), x);
+    if pairs < 64 {
+        return 32 * pairs;
+    }
+    let rounds = rounds_agree(assignment, WireNumber(first.0 + ROUNDS), v, x, t);
+    let before_round = W_PRIME_ROWS + rows_before_round(rounds.count);
+    if rounds.count < 64 {
+        return before_round;
+    }
+    let result = xor_states(rounds.state, v);
+    if !state_agrees(assignment, WireNumber(first.0 + RESULT), result) {
+        return before_round;
+    }
+    before_round + RESULT_ROWS
+}
+
 // How many rows of block i past those of its bits hold, from the first on, because its wires are what its bits, the words x, and the
-// words that it begins with make them: up to a word or a round whose wires are not.
+// words that it begins with make them.
 fn computed_rows_passed(
     circuit: Circuit,
     i: u64,
@@ -63,19 +94,7 @@ fn computed_rows_passed(
     if words < 52 {
         return EXPANDED_ROWS * words;
     }
-    if !pairs_agree(assignment, WireNumber(first.0 + PAIRS), x) {
-        return EXPANSION_ROWS;
-    }
-    let rounds = rounds_agree(assignment, WireNumber(first.0 + ROUNDS), v, x, t);
-    let before_round = EXPANSION_ROWS + W_PRIME_ROWS + rows_before_round(rounds.count);
-    if rounds.count < 64 {
-        return before_round;
-    }
-    let result = xor_states(rounds.state, v);
-    if !state_agrees(assignment, WireNumber(first.0 + RESULT), result) {
-        return before_round;
-    }
-    before_round + RESULT_ROWS
+    EXPANSION_ROWS + rows_past_expansion(assignment, first, v, x, t)
 }
 
 // How many rows of block i hold, from the first on, because of what its wires are. The rows of its 512 bits hold where these are bits

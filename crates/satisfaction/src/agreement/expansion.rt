@@ -45,15 +45,15 @@ pub fn expanded_words_agree(assignment: &[u8], w: WireNumber, x: &mut [u32; 68])
     52
 }
 
-// Whether the 2,048 wires from w on are those of W'0 to W'63.
-pub fn pairs_agree(assignment: &[u8], w: WireNumber, x: &[u32; 68]) -> bool
+// How many of the words W'0 to W'63 have their wires from w on, up to the first that has not.
+pub fn pairs_agree(assignment: &[u8], w: WireNumber, x: &[u32; 68]) -> u64
     requires { ⌜ 8 * (w .0 + 2048) ≤ length (now assignment) ⌝ }
-    ensures { λ r. ⌜ (r ≡ true → Agrees (w .0) 2048 (grid 32 (λ (j : ℕ). wordWires (pairWord (now (x .entry)) j))) (now (assignment .entry))) ⌝ }
+    ensures { λ r. ⌜ (r ≤ 64) × Agrees (w .0) (r * 32) (grid 32 (λ (j : ℕ). wordWires (pairWord (now (x .entry)) j))) (now (assignment .entry)) ⌝ }
 {
     for j in 0..64 {
         if !word_agrees(assignment, WireNumber(w.0 + 32 * j as u64), x[j] ^ x[j + 4]) {
-            return false;
+            return j as u64;
         }
     }
-    true
+    64
 }

@@ -1,7 +1,6 @@
 -- Between a row and itself none fails; else the rows are judged.
 use mathlib.Core.Path.{sym}
 use native.Mathlib.Omega.{arith}
-use borrow.Author.Needs.{needs}
 use Rattle.satisfaction.proofs.Lowest.{lowest-end}
 use Rattle.satisfaction.proofs.blocks_check.lowest_from.Statement.{statement}
 use Rattle.satisfaction.proofs.blocks_check.lowest_from.Tie as tie

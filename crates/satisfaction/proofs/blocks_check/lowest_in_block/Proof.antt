@@ -1,8 +1,7 @@
 -- The rows that are passed by hold, so the lowest failing row of the block is that of the others.
-use mathlib.Core.Path.{_≡_, _∙_, ap, refl, sym}
+use mathlib.Core.Path.{_≡_, _∙_, ap, sym}
 use Prim.Native.Nat.{ℕ, _+_, _-_, _*_}
 use native.Mathlib.Omega.{arith}
-use borrow.Author.Needs.{needs}
 use Rattle.block.specs.Steps.{blockRows}
 use Rattle.circuit.proofs.place.PlaceRange.{few-blocks}
 use Rattle.circuit.specs.Places.{rowCount, stateRows}

@@ -1,18 +1,17 @@
--- The words that are read off the block's bits are its first words, so the expansion, the pairs, the rounds and the result that
--- are computed from them are the block's; and up to the first that does not agree, the rows hold by `BlockHolds`.
+-- The words that are read off the block's bits are its first words, so the expansion that is computed from them is the block's; and up to
+-- the first wires that do not agree, the rows hold by `BlockHolds`.
 use mathlib.Core.List.{List}
-use mathlib.Core.Path.{_≡_, _∙_, ap, subst, sym}
+use mathlib.Core.Path.{_≡_, _∙_, ap, subst, subst₂}
 use Prim.Native.Nat.{ℕ, _+_, _*_, _<_, _≤_}
 use native.Mathlib.Omega.{arith}
 use borrow.Author.Needs.{needs}
-use borrow.Author.Tests.{not-false}
 use lib.Dec.{lit≤}
 use lib.ListN.{length, take}
 use Rattle.assignment.specs.Assignment.{entry}
 use Rattle.assignment.specs.Bounded.{BelowPrime}
-use Rattle.block.specs.BlockWires.{expansionWires, roundWires, stateWires}
-use Rattle.block.specs.Steps.{blockRows, computedRows, rowsBeforeRound}
-use Rattle.block.specs.Wires.{expansionAt, expansionWidth, pairsAt, resultAt, roundWidth, roundsAt}
+use Rattle.block.specs.BlockWires.{expansionWires}
+use Rattle.block.specs.Steps.{blockRows}
+use Rattle.block.specs.Wires.{expansionAt, expansionWidth, wiresPerBlock}
 use Rattle.circuit.proofs.place.PlaceRange.{few-blocks}
 use Rattle.circuit.specs.Circuit.{beginsAt, rowAt}
 use Rattle.circuit.specs.Circuits.{blockCount, messageOf}
@@ -21,14 +20,13 @@ use Rattle.circuit.specs.Wires.{blockFirst, wireCount}
 use Rattle.circuit.specs.declared.circuits.Circuit.{Circuit}
 use Rattle.circuit.specs.declared.message.MessageSpan.{MessageSpan}
 use Rattle.encoding.specs.Sequence.{grid}
-use Rattle.forms.specs.WordWires.{wordWires}
-use Rattle.satisfaction.proofs.Agreeing.{agrees-as, are-bits, first-words}
+use Rattle.satisfaction.proofs.Agreeing.{are-bits, first-words}
 use Rattle.satisfaction.proofs.Lowest.{lowest-none}
-use Rattle.satisfaction.proofs.blocks_check.BlockHolds.{block-passed, rounds-passed, words-passed}
-use Rattle.satisfaction.specs.Agrees.{Agrees, BitsOfState, BitsOfWords}
+use Rattle.satisfaction.proofs.blocks_check.BlockHolds.{past-expansion, past-few, words-passed}
+use Rattle.satisfaction.specs.Agrees.{Agrees, BitsOfState, BitsOfWords, PastExpansion}
 use Rattle.satisfaction.specs.Lowest.{lowest}
 use Rattle.satisfaction.specs.declared.rows_check.Verdict.the-variants.{AllSatisfied}
-use Rattle.sm3.specs.Sm3.{expansion, pairWord, rounds, xorState}
+use Rattle.sm3.specs.Sm3.{expansion}
 use Rattle.sm3.specs.declared.state.State.{State}
 use Rattle.satisfaction.proofs.agreement.block_wires.computed_rows_passed.Statement.{statement}
 use Rattle.satisfaction.proofs.agreement.block_wires.computed_rows_passed.Tie as tie
@@ -46,50 +44,25 @@ module _ {bytes x₀ : List ℕ} {F b : ℕ} {v : State} (C : Circuit) (i : ℕ)
   begun : BitsOfState (beginsAt (messageOf C i) i) v bytes
   begun = subst (λ w. BitsOfState w v bytes) from state
 
-  -- the same wires, by the block's number
-  moved : {n : ℕ} {s : ℕ → ℕ} (k : ℕ) → Agrees (F + k) n s bytes → Agrees (blockFirst i + k) n s bytes
-  moved {n} {s} k h = subst (λ w. Agrees (w + k) n s bytes) at h
+  -- c words of the expansion agree
+  module _ {c : ℕ} (few : c ≤ 52)
+      (expanded : Agrees (F + expansionAt) (c * expansionWidth) (grid expansionWidth (λ j. expansionWires (expansion bits 68) (16 + j))) bytes) where
+    moved : Agrees (blockFirst i + expansionAt) (c * expansionWidth) (grid expansionWidth (λ j. expansionWires (expansion bits 68) (16 + j))) bytes
+    moved = subst (λ w. Agrees (w + expansionAt) (c * expansionWidth) (grid expansionWidth (λ j. expansionWires (expansion bits 68) (16 + j))) bytes) at expanded
 
-  words-hold : (c : ℕ) → c ≤ 52
-      → Agrees (F + expansionAt) (c * expansionWidth) (grid expansionWidth (λ j. expansionWires (expansion bits 68) (16 + j))) bytes
-      → lowest (entry bytes) (rowAt C) (stateRows + blockRows * i + 512) (192 * c) ≡ AllSatisfied
-  words-hold c few h = words-passed bytes one below C i l (are-bits read) v begun c few (moved expansionAt h)
+    words-hold : lowest (entry bytes) (rowAt C) (stateRows + blockRows * i + 512) (192 * c) ≡ AllSatisfied
+    words-hold = words-passed bytes one below C i l (are-bits read) v begun c few moved
 
-  module _ {x : List ℕ} (words : x ≡ expansion bits 68)
-      (expanded : Agrees (F + expansionAt) (52 * expansionWidth) (grid expansionWidth (λ j. expansionWires (expansion bits 68) (16 + j))) bytes)
-      (paired : Agrees (F + pairsAt) 2048 (grid 32 (λ j. wordWires (pairWord x j))) bytes) (c : ℕ) (few : c ≤ 64)
-      (rounded : Agrees (F + roundsAt) (c * roundWidth) (grid roundWidth (λ j. roundWires x j (rounds x v j))) bytes) where
-    pairs-moved : Agrees (blockFirst i + pairsAt) 2048 (grid 32 (λ j. wordWires (pairWord (expansion bits 68) j))) bytes
-    pairs-moved = moved pairsAt (agrees-as (ap (λ x. grid 32 (λ j. wordWires (pairWord x j))) words) paired)
-
-    rounds-moved : Agrees (blockFirst i + roundsAt) (c * roundWidth)
-        (grid roundWidth (λ j. roundWires (expansion bits 68) j (rounds (expansion bits 68) v j)))
-        bytes
-    rounds-moved = moved roundsAt (agrees-as (ap (λ x. grid roundWidth (λ j. roundWires x j (rounds x v j))) words) rounded)
-
-    rounds-hold : (n : ℕ) → n ≡ 9984 + 2048 + rowsBeforeRound c
-        → lowest (entry bytes) (rowAt C) (stateRows + blockRows * i + 512) n ≡ AllSatisfied
-    rounds-hold n e =
-        subst (λ n. lowest (entry bytes) (rowAt C) (stateRows + blockRows * i + 512) n ≡ AllSatisfied) (sym e)
-        (rounds-passed bytes one below C i l (are-bits read) v begun (moved expansionAt expanded) pairs-moved c few rounds-moved)
-
-    all-hold : c ≡ 64 → {s S : State} → s ≡ xorState S v → S ≡ rounds x v c → Agrees (F + resultAt) 256 (stateWires s) bytes
-        → (n : ℕ) → n ≡ computedRows → lowest (entry bytes) (rowAt C) (stateRows + blockRows * i + 512) n ≡ AllSatisfied
-    all-hold all {s} {S} result after stands n e =
-        let same : s ≡ xorState (rounds (expansion bits 68) v 64) v =
-        result ∙ ap (λ t. xorState t v) (after ∙ ap (rounds x v) all) ∙ ap (λ x. xorState (rounds x v 64) v) words in
-        subst (λ n. lowest (entry bytes) (rowAt C) (stateRows + blockRows * i + 512) n ≡ AllSatisfied) (sym e)
-        (block-passed bytes one below C i l (are-bits read) v begun (moved expansionAt expanded) pairs-moved
-        (subst
-        (λ k. Agrees (blockFirst i + roundsAt) (k * roundWidth)
-        (grid roundWidth (λ j. roundWires (expansion bits 68) j (rounds (expansion bits 68) v j)))
-        bytes)
-        all rounds-moved)
-        (moved resultAt (agrees-as (ap stateWires same) stands)))
+    -- all do, and so far what follows
+    past-hold : c ≡ 52 → {x : List ℕ} → x ≡ expansion bits 68 → {r : ℕ} → PastExpansion F x v bytes r
+        → lowest (entry bytes) (rowAt C) (stateRows + blockRows * i + 512) (9984 + r) ≡ AllSatisfied
+    past-hold all words {r} past =
+        past-expansion bytes one below C i l (are-bits read) v begun (rw all at moved)
+        (subst₂ (λ F x. PastExpansion F x v bytes r) at words past)
 
 -- where block i begins, its wires are those of the assignment
 room : (C : Circuit) (i F : ℕ) (bytes : List ℕ) → i < blockCount C → F ≡ blockFirst i → length bytes ≡ 8 * wireCount C
-    → 8 * (F + 22528) ≤ length bytes
+    → 8 * (F + wiresPerBlock) ≤ length bytes
 unfolding wireCount
 room C i F bytes l at size = omega arith
 
@@ -117,138 +90,63 @@ enum-told c = search needs
 returns : tie.Need-returns
 returns c = (omega arith, lowest-none _ _ _)
 
-add-before-round : tie.Need-add-before-round
-add-before-round c = search needs
+add-result : tie.Need-add-result
+add-result c = search needs
 
 expanded-words-agree-requires : tie.Need-expanded-words-agree-requires
 expanded-words-agree-requires c κs =
-    let start = c .before .before .before .before .before .before .before .before .before .before in
-    let fits = room (start .args .circuit) (start .args .i) (c .before .before .before .before .before .before .before .before .block-first .result .0) (start .args .assignment .now) (start .pre .5) (c .before .before .before .before .before .before .before .before .block-first .ensures .0) (start .pre .1) in
-    (start .pre .6, omega (arith, fits))
+    let placed = c .before .before .before .before .before .before .before .before in
+    let start = placed .before .before in
+    let a = start .args in
+    (start .pre .6, omega (arith, room (a .circuit) (a .i) _ (a .assignment .now) (start .pre .5) (placed .block-first .ensures .0) (start .pre .1)))
 
 mul-result : tie.Need-mul-result
 mul-result c = search needs
 
 returns-2 : tie.Need-returns-2
 returns-2 c =
-    let start = c .before .before .before .before .before .before .before .before .before .before .before .before in
+    let known = c .before .before .before .before .before in
+    let begun = known .before .before .before in
+    let placed = begun .before .before in
+    let start = placed .before .before in
     let p = start .pre in
     let a = start .args in
-    let at = c .before .before .before .before .before .before .before .before .before .before .block-first .ensures .0 in
-    let from = c .before .before .before .before .before .before .before .before .beginning .ensures .0 ∙ ap (λ (m : MessageSpan). beginsAt m (a .i)) (c .before .before .before .before .before .before .before .before .before .message-of .ensures .0) in
-    let state = c .before .before .before .before .before .before .before .read-state .ensures _ (c .before .before .before .before .before .v .given .1) in
-    let told = c .before .expanded-words-agree .ensures in
-    let known = told .1 _ (first-sixteen (a .circuit) (a .i) (p .2) (p .3) (p .5) at from (p .6) (p .7) state) in
-    (omega (arith, told .0), words-hold (a .circuit) (a .i) (p .2) (p .3) (p .5) at from (p .6) (p .7) state _ (told .0) (known .1))
+    let from = begun .beginning .ensures .0 ∙ ap (λ (m : MessageSpan). beginsAt m (a .i)) (begun .before .message-of .ensures .0) in
+    let state = known .before .before .read-state .ensures _ (known .v .given .1) in
+    let at = placed .block-first .ensures .0 in
+    let told = c .before .expanded-words-agree .ensures in (
+      omega (arith, told .0),
+      words-hold (a .circuit) (a .i) (p .2) (p .3) (p .5) at from (p .6) (p .7) state (told .0)
+          (told .1 _ (first-sixteen (a .circuit) (a .i) (p .2) (p .3) (p .5) at from (p .6) (p .7) state) .1),
+    )
 
-add-before-round-2 : tie.Need-add-before-round-2
-add-before-round-2 c = search needs
+rows-past-expansion-requires : tie.Need-rows-past-expansion-requires
+rows-past-expansion-requires c κs =
+    let placed = c .before .before .before .before .before .before .before .before .before .before .before in
+    let start = placed .before .before in
+    let a = start .args in
+    (start .pre .4, room (a .circuit) (a .i) _ (a .assignment .now) (start .pre .5) (placed .block-first .ensures .0) (start .pre .1))
 
-pairs-agree-requires : tie.Need-pairs-agree-requires
-pairs-agree-requires c κs =
-    let start = c .before .before .before .before .before .before .before .before .before .before .before .before .before .before in
-    let fits = room (start .args .circuit) (start .args .i) (c .before .before .before .before .before .before .before .before .before .before .before .before .block-first .result .0) (start .args .assignment .now) (start .pre .5) (c .before .before .before .before .before .before .before .before .before .before .before .before .block-first .ensures .0) (start .pre .1) in
-    omega (arith, fits)
+add-result-2 : tie.Need-add-result-2
+add-result-2 c = omega (arith, past-few (c .rows-past-expansion .ensures))
 
 returns-3 : tie.Need-returns-3
 returns-3 c =
-    let start = c .before .before .before .before .before .before .before .before .before .before .before .before .before .before .before .before in
+    let asked = c .before .before in
+    let known = asked .before .before .before .before .before in
+    let begun = known .before .before .before in
+    let placed = begun .before .before in
+    let start = placed .before .before in
     let p = start .pre in
     let a = start .args in
-    let at = c .before .before .before .before .before .before .before .before .before .before .before .before .before .before .block-first .ensures .0 in
-    let from = c .before .before .before .before .before .before .before .before .before .before .before .before .beginning .ensures .0 ∙ ap (λ (m : MessageSpan). beginsAt m (a .i)) (c .before .before .before .before .before .before .before .before .before .before .before .before .before .message-of .ensures .0) in
-    let state = c .before .before .before .before .before .before .before .before .before .before .before .read-state .ensures _ (c .before .before .before .before .before .before .before .before .before .v .given .1) in
-    let told = c .before .before .before .before .before .expanded-words-agree .ensures in
-    let known = told .1 _ (first-sixteen (a .circuit) (a .i) (p .2) (p .3) (p .5) at from (p .6) (p .7) state) in
-    let all : c .before .before .before .before .before .expanded-words-agree .result ≡ 52 = omega (arith, told .0, c .before .before .before .before .if1 .left) in
-    (omega arith, words-hold (a .circuit) (a .i) (p .2) (p .3) (p .5) at from (p .6) (p .7) state 52 (lit≤ tt) (rw all at (known .1)))
-
-add-before-round-3 : tie.Need-add-before-round-3
-add-before-round-3 c = search needs
-
-rounds-agree-requires : tie.Need-rounds-agree-requires
-rounds-agree-requires c κs =
-    let start = c .before .before .before .before .before .before .before .before .before .before .before .before .before .before .before .before .before .before in
-    let fits = room (start .args .circuit) (start .args .i) (c .before .before .before .before .before .before .before .before .before .before .before .before .before .before .before .before .block-first .result .0) (start .args .assignment .now) (start .pre .5) (c .before .before .before .before .before .before .before .before .before .before .before .before .before .before .before .before .block-first .ensures .0) (start .pre .1) in
-    (start .pre .4, omega (arith, fits))
-
-add-before-round-4 : tie.Need-add-before-round-4
-add-before-round-4 c = search needs
-
-rows-before-round-requires : tie.Need-rows-before-round-requires
-rows-before-round-requires c κs = search needs
-
-add-before-round-5 : tie.Need-add-before-round-5
-add-before-round-5 c = search needs
-
-returns-4 : tie.Need-returns-4
-returns-4 c =
-    let start = c .before .before .before .before .before .before .before .before .before .before .before .before .before .before .before .before .before .before .before .before .before .before in
-    let p = start .pre in
-    let a = start .args in
-    let at = c .before .before .before .before .before .before .before .before .before .before .before .before .before .before .before .before .before .before .before .before .block-first .ensures .0 in
-    let from = c .before .before .before .before .before .before .before .before .before .before .before .before .before .before .before .before .before .before .beginning .ensures .0 ∙ ap (λ (m : MessageSpan). beginsAt m (a .i)) (c .before .before .before .before .before .before .before .before .before .before .before .before .before .before .before .before .before .before .before .message-of .ensures .0) in
-    let state = c .before .before .before .before .before .before .before .before .before .before .before .before .before .before .before .before .before .read-state .ensures _ (c .before .before .before .before .before .before .before .before .before .before .before .before .before .before .before .v .given .1) in
-    let told = c .before .before .before .before .before .before .before .before .before .before .before .expanded-words-agree .ensures in
-    let known = told .1 _ (first-sixteen (a .circuit) (a .i) (p .2) (p .3) (p .5) at from (p .6) (p .7) state) in
-    let all : c .before .before .before .before .before .before .before .before .before .before .before .expanded-words-agree .result ≡ 52 = omega (arith, told .0, c .before .before .before .before .before .before .before .before .before .before .if1 .left) in
-    let paired = c .before .before .before .before .before .before .before .pairs-agree .ensures (not-false _ (c .before .before .before .before .before .before .if2 .left)) in
-    let rounds = c .before .before .before .rounds-agree .ensures in
-    let rows = c .before .before .rows-before-round .ensures in
-    (omega (arith, rows .1), rounds-hold (a .circuit) (a .i) (p .2) (p .3) (p .5) at from (p .6) (p .7) state (known .0 all) (rw all at (known .1)) paired _ (rounds .0) (rounds .2) _ (ap (λ r. 9984 + 2048 + r) (rows .0)))
-
-xor-states-requires : tie.Need-xor-states-requires
-xor-states-requires c κs = search needs
-
-add-t22 : tie.Need-add-t22
-add-t22 c = omega (arith, c .before .before .before .before .before .before .before .before .before .before .before .before .before .before .before .before .before .before .before .before .before .before .block-first .ensures .1)
-
-state-agrees-requires : tie.Need-state-agrees-requires
-state-agrees-requires c κs =
-    let start = c .before .before .before .before .before .before .before .before .before .before .before .before .before .before .before .before .before .before .before .before .before .before .before .before in
-    let fits = room (start .args .circuit) (start .args .i) (c .before .before .before .before .before .before .before .before .before .before .before .before .before .before .before .before .before .before .before .before .before .before .block-first .result .0) (start .args .assignment .now) (start .pre .5) (c .before .before .before .before .before .before .before .before .before .before .before .before .before .before .before .before .before .before .before .before .before .before .block-first .ensures .0) (start .pre .1) in
-    omega (arith, fits)
-
-returns-5 : tie.Need-returns-5
-returns-5 c =
-    let start = c .before .before .before .before .before .before .before .before .before .before .before .before .before .before .before .before .before .before .before .before .before .before .before .before .before .before in
-    let p = start .pre in
-    let a = start .args in
-    let at = c .before .before .before .before .before .before .before .before .before .before .before .before .before .before .before .before .before .before .before .before .before .before .before .before .block-first .ensures .0 in
-    let from = c .before .before .before .before .before .before .before .before .before .before .before .before .before .before .before .before .before .before .before .before .before .before .beginning .ensures .0 ∙ ap (λ (m : MessageSpan). beginsAt m (a .i)) (c .before .before .before .before .before .before .before .before .before .before .before .before .before .before .before .before .before .before .before .before .before .before .before .message-of .ensures .0) in
-    let state = c .before .before .before .before .before .before .before .before .before .before .before .before .before .before .before .before .before .before .before .before .before .read-state .ensures _ (c .before .before .before .before .before .before .before .before .before .before .before .before .before .before .before .before .before .before .before .v .given .1) in
-    let told = c .before .before .before .before .before .before .before .before .before .before .before .before .before .before .before .expanded-words-agree .ensures in
-    let known = told .1 _ (first-sixteen (a .circuit) (a .i) (p .2) (p .3) (p .5) at from (p .6) (p .7) state) in
-    let all : c .before .before .before .before .before .before .before .before .before .before .before .before .before .before .before .expanded-words-agree .result ≡ 52 = omega (arith, told .0, c .before .before .before .before .before .before .before .before .before .before .before .before .before .before .if1 .left) in
-    let paired = c .before .before .before .before .before .before .before .before .before .before .before .pairs-agree .ensures (not-false _ (c .before .before .before .before .before .before .before .before .before .before .if2 .left)) in
-    let rounds = c .before .before .before .before .before .before .before .rounds-agree .ensures in
-    let rows = c .before .before .before .before .before .before .rows-before-round .ensures in
-    (omega (arith, rows .1), rounds-hold (a .circuit) (a .i) (p .2) (p .3) (p .5) at from (p .6) (p .7) state (known .0 all) (rw all at (known .1)) paired _ (rounds .0) (rounds .2) _ (ap (λ r. 9984 + 2048 + r) (rows .0)))
-
-add-result : tie.Need-add-result
-add-result c = search needs
-
-returns-6 : tie.Need-returns-6
-returns-6 c =
-    let start = c .before .before .before .before .before .before .before .before .before .before .before .before .before .before .before .before .before .before .before .before .before .before .before .before .before .before in
-    let p = start .pre in
-    let a = start .args in
-    let at = c .before .before .before .before .before .before .before .before .before .before .before .before .before .before .before .before .before .before .before .before .before .before .before .before .block-first .ensures .0 in
-    let from = c .before .before .before .before .before .before .before .before .before .before .before .before .before .before .before .before .before .before .before .before .before .before .beginning .ensures .0 ∙ ap (λ (m : MessageSpan). beginsAt m (a .i)) (c .before .before .before .before .before .before .before .before .before .before .before .before .before .before .before .before .before .before .before .before .before .before .before .message-of .ensures .0) in
-    let state = c .before .before .before .before .before .before .before .before .before .before .before .before .before .before .before .before .before .before .before .before .before .read-state .ensures _ (c .before .before .before .before .before .before .before .before .before .before .before .before .before .before .before .before .before .before .before .v .given .1) in
-    let told = c .before .before .before .before .before .before .before .before .before .before .before .before .before .before .before .expanded-words-agree .ensures in
-    let known = told .1 _ (first-sixteen (a .circuit) (a .i) (p .2) (p .3) (p .5) at from (p .6) (p .7) state) in
-    let all : c .before .before .before .before .before .before .before .before .before .before .before .before .before .before .before .expanded-words-agree .result ≡ 52 = omega (arith, told .0, c .before .before .before .before .before .before .before .before .before .before .before .before .before .before .if1 .left) in
-    let paired = c .before .before .before .before .before .before .before .before .before .before .before .pairs-agree .ensures (not-false _ (c .before .before .before .before .before .before .before .before .before .before .if2 .left)) in
-    let rounds = c .before .before .before .before .before .before .before .rounds-agree .ensures in
-    let rows = c .before .before .before .before .before .before .rows-before-round .ensures in
-    let last : c .before .before .before .before .before .before .before .rounds-agree .result .count ≡ 64 = omega (arith, rounds .0, c .before .before .before .before .if3 .left) in
-    let before : c .before .before .before .before .before .before .rows-before-round .result ≡ 19520 = rows .0 ∙ ap rowsBeforeRound last in
-    let result = c .before .before .before .xor-states .ensures in
-    let stands = c .before .state-agrees .ensures (not-false _ (c .if4 .left)) in (
-      omega (arith, before),
-      all-hold (a .circuit) (a .i) (p .2) (p .3) (p .5) at from (p .6) (p .7) state (known .0 all) (rw all at (known .1)) paired _ (rounds .0) (rounds .2) last result (rounds .1) stands _ (omega (arith, before)),
-    )
+    let from = begun .beginning .ensures .0 ∙ ap (λ (m : MessageSpan). beginsAt m (a .i)) (begun .before .message-of .ensures .0) in
+    let state = known .before .before .read-state .ensures _ (known .v .given .1) in
+    let at = placed .block-first .ensures .0 in
+    let told = asked .before .expanded-words-agree .ensures in
+    let words = told .1 _ (first-sixteen (a .circuit) (a .i) (p .2) (p .3) (p .5) at from (p .6) (p .7) state) in
+    let all : asked .before .expanded-words-agree .result ≡ 52 = omega (arith, told .0, asked .if1 .left) in
+    let past = c .rows-past-expansion .ensures in
+    (omega (arith, past-few past), past-hold (a .circuit) (a .i) (p .2) (p .3) (p .5) at from (p .6) (p .7) state (told .0) (words .1) all (words .0 all) past)
 
 pub computed-rows-passed-spec : {M : Type 1} → statement M
 computed-rows-passed-spec =
@@ -261,22 +159,10 @@ computed-rows-passed-spec =
     enum-known-v
     enum-told
     returns
-    add-before-round
+    add-result
     expanded-words-agree-requires
     mul-result
     returns-2
-    add-before-round-2
-    pairs-agree-requires
-    returns-3
-    add-before-round-3
-    rounds-agree-requires
-    add-before-round-4
-    rows-before-round-requires
-    add-before-round-5
-    returns-4
-    xor-states-requires
-    add-t22
-    state-agrees-requires
-    returns-5
-    add-result
-    returns-6)
+    rows-past-expansion-requires
+    add-result-2
+    returns-3)

@@ -1,5 +1,4 @@
 -- Before turn j the wires of the first j pairs agree.
-use mathlib.Core.Bool.{false≢true}
 use Prim.Native.Nat.{ℕ, _+_, _-_, _*_, _<_, _≤_}
 use native.Mathlib.Omega.{arith}
 use borrow.Author.Count.{below-more, below-none}
@@ -47,7 +46,10 @@ word-agrees-requires : tie.Need-word-agrees-requires Inv-loop μ-loop
 word-agrees-requires c κs = search needs
 
 returns : tie.Need-returns Inv-loop μ-loop
-returns c = λ e. absurd (false≢true e)
+returns c =
+    let l = c .before .before .before .before .before .before in
+    let x = l .before .before .args .x .now in
+    (omega arith, agrees-rows (l .loop .j) (λ j. wordWires (pairWord x j)) (l .loop .inv .1))
 
 add-j : tie.Need-add-j Inv-loop μ-loop
 add-j c = search needs
@@ -64,7 +66,7 @@ loop-again c =
 returns-2 : tie.Need-returns-2 Inv-loop μ-loop
 returns-2 c =
     let x = c .before .before .before .args .x .now in
-    λ e. agrees-rows 64 (λ j. wordWires (pairWord x j)) (λ j l. c .before .loop .inv .1 j (omega arith))
+    (omega arith, agrees-rows 64 (λ j. wordWires (pairWord x j)) (λ j l. c .before .loop .inv .1 j (omega arith)))
 
 pub pairs-agree-spec : {M : Type 1} → statement M
 pairs-agree-spec =
