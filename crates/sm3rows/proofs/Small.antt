@@ -3,16 +3,18 @@
 use mathlib.Core.Bool.{false, not}
 use mathlib.Core.List.{List}
 use mathlib.Core.Path.{refl}
-use Prim.Native.Nat.{ℕ, _*_, _<_, _≤_}
+use Prim.Native.Nat.{ℕ, _*_, _<_}
 use native.Mathlib.Omega.{arith}
 use borrow.Author.Tests.{leb-false, ltb-false}
 use lib.Dec.{eqb, leb, lit<, ltb}
 use lib.ListN.{length, length-append}
+use Rattle.assignment.proofs.EntriesBelow.{limit-small}
 use Rattle.axles.specs.Band.{inBand}
 use Rattle.axles.specs.Check.{axlesCheckAnswer}
 use Rattle.axles.specs.Produce.{axlesProduceAnswer}
 use Rattle.axles.specs.RowAnswer.{axlesRowAnswer}
 use Rattle.circuit.proofs.axles.Bounds.{bounds-iff}
+use Rattle.circuit.proofs.place.PlaceRange.{most-wires}
 use Rattle.circuit.proofs.shape.Shape.{shape}
 use Rattle.circuit.specs.Axles.{boundsInRange}
 use Rattle.circuit.specs.Circuit.{rowAt}
@@ -22,21 +24,19 @@ use Rattle.circuit.specs.Ranges.{Allowed}
 use Rattle.circuit.specs.Wires.{wireCount}
 use Rattle.circuit.specs.declared.circuits.Circuit.the-variants.{Axles, Record}
 use Rattle.circuit.specs.declared.circuits.Circuit.{Circuit}
-use Rattle.encoding.proofs.Lowest.{by-lowest}
 use Rattle.encoding.specs.Packed.{packedLength, spareBits}
 use Rattle.forms.specs.Rows.{terms}
-use Rattle.packing.specs.Pack.{bitsAnswer, packAnswer}
+use Rattle.packing.specs.Pack.{packAnswer}
 use Rattle.packing.specs.Unpack.{packedAnswer, unpackAnswer}
 use Rattle.record.specs.Produce.{produceAnswer}
 use Rattle.record.specs.RowAnswer.{rowAnswer}
 use Rattle.refusal.proofs.Small.{Small, bare, done-small, room-small, tested}
 use Rattle.refusal.proofs.Tests.{not-iff}
-use Rattle.refusal.specs.declared.outcome.Outcome.the-variants.{Done}
 use Rattle.refusal.specs.declared.outcome.Outcome.{Outcome}
 use Rattle.satisfaction.proofs.circuit_check.Small.{check-small}
 use Rattle.sm3.specs.Digest.{digestAnswer}
 use Rattle.sm3.specs.Handed.{handedAnswer}
-use Rattle.sm3.specs.Message.{blocks, mostBits}
+use Rattle.sm3.specs.Message.{mostBits}
 use Rattle.sm3rows.specs.Small.{SmallRow}
 
 -- the tests of a record as it is handed over
@@ -71,19 +71,18 @@ pub row-small : (n k room : ℕ) → SmallRow (rowAnswer n k room)
 unfolding rowAnswer
 row-small n k room = tested SmallRow (ltb mostBits n) (lit< tt) (λ e. given-small (Record n) (ltb-false mostBits n e) k room)
 
-bits-small : (n : ℕ) (a : List ℕ) → n ≤ mostBits → Small (bitsAnswer a 0 (wireCount (Record n)))
-unfolding bitsAnswer wireCount blocks
-bits-small n a range =
-    by-lowest _ _ Small Done 0 (wireCount (Record n)) (λ _. done-small) (λ j low. record { room = omega (arith, low .below) })
-
 pub pack-small : (n : ℕ) (a : List ℕ) (room : ℕ) → Small (packAnswer n a room)
 unfolding packAnswer
 pack-small n a room =
     tested Small (ltb mostBits n) (bare refl)
     (λ e.
+    let few = most-wires (Record n) (ltb-false mostBits n e) in
     tested Small (ltb room (packedLength (wireCount (Record n)))) (bare refl)
     (λ _.
-    tested Small (not (eqb (length a) (8 * wireCount (Record n)))) (bare refl) (λ _. bits-small n a (ltb-false mostBits n e))))
+    tested Small (not (eqb (length a) (8 * wireCount (Record n)))) (bare refl)
+    (λ _.
+    limit-small _ _ (wireCount (Record n)) a _ (λ w l. record { room = omega (arith, l, few) })
+    (limit-small _ _ (wireCount (Record n)) a _ (λ w l. record { room = omega (arith, l, few) }) done-small))))
 
 pub unpack-small : (n : ℕ) (p : List ℕ) (room : ℕ) → Small (unpackAnswer n p room)
 unfolding unpackAnswer packedAnswer
