@@ -2,12 +2,14 @@
 use mathlib.Core.List.{map}
 use mathlib.Core.Path.{_≡_, refl}
 use Rattle.assignment.specs.Assignment.{entry}
+use Rattle.assignment.specs.BelowPrime.{limitAnswer}
 use Rattle.record.specs.Check.{checkAnswer}
 use Rattle.circuit.specs.Wires.{wireCount}
 use Rattle.circuit.specs.Places.{rowCount}
 use Rattle.record.specs.RowAnswer.{rowAnswer}
 use Rattle.encoding.specs.Bits.{bitOfBytes, number}
 use Rattle.encoding.specs.Bytes.{fromLeastFirst, leastFirst}
+use Rattle.encoding.specs.Lowest.{lowestFailing}
 use Rattle.encoding.specs.Packed.{spareBits}
 use Rattle.encoding.specs.Sequence.{tab}
 use Rattle.figures.specs.Figures.{Figure, table}
@@ -21,5 +23,5 @@ use Rattle.text.specs.Decimal.{isDigit}
 use Rattle.text.specs.Field.{continues, fieldFrom, fieldOf}
 
 pub figures : map (λ (f : Figure). f .computed) table ≡ map (λ (f : Figure). f .stated) table
-unfolding blocks wireCount rowCount handedAnswer spareBits number bitOfBytes rowAnswer checkAnswer entry leastFirst fromLeastFirst tab P0 P1 rotatedConstant constant rotateLeft requestOf checked within parseOf fieldOf fieldFrom continues isDigit
+unfolding blocks wireCount rowCount handedAnswer spareBits number bitOfBytes rowAnswer checkAnswer limitAnswer lowestFailing entry leastFirst fromLeastFirst tab P0 P1 rotatedConstant constant rotateLeft requestOf checked within parseOf fieldOf fieldFrom continues isDigit
 figures = refl

@@ -1,8 +1,9 @@
 -- The worked figures that document 01 marks P, one table: what the definitions give, beside the paper's figure. Lengths are in
 -- bits, the unit that document 02's request 2 gives every figure. The definitions are the ones that the contracts cite.
-use mathlib.Core.List.{List, [], _∷_}
+use mathlib.Core.List.{List, [], _∷_, _++_}
 use Prim.Native.Nat.{ℕ, _-_, _*_, _^_}
-use Rattle.assignment.specs.Assignment.{entry}
+use lib.ListN.{getD}
+use Rattle.assignment.specs.BelowPrime.{belowPrimeAnswer}
 use Rattle.circuit.specs.declared.circuits.Circuit.the-variants.{Axles, Record}
 use Rattle.record.specs.Check.{checkAnswer}
 use Rattle.record.specs.Produce.{produceAnswer}
@@ -12,10 +13,12 @@ use Rattle.circuit.specs.GivenRow.{rowBytes, rowNumber}
 use Rattle.record.specs.RowAnswer.{rowAnswer}
 use Rattle.encoding.specs.Bytes.{leastFirst}
 use Rattle.encoding.specs.Packed.{packedLength}
-use Rattle.field.specs.Field.{p}
+use Rattle.field.specs.Field.{p, residue}
 use Rattle.listing.specs.Request.{requestNumber, requestOf}
 use Rattle.listing.specs.declared.request.Front.the-variants.{Length}
-use Rattle.refusal.specs.Refusals.{outcomeNumber}
+use Rattle.refusal.specs.Refusals.{outcomeNumber, outcomeValues}
+use Rattle.refusal.specs.declared.outcome.Outcome.the-variants.{Done}
+use Rattle.refusal.specs.declared.outcome.Outcome.{Outcome}
 use Rattle.sm3.specs.Digest.{digestAnswer}
 use Rattle.sm3.specs.Message.{blocks}
 use Rattle.sm3.specs.Sm3.{P0, P1, rotatedConstant}
@@ -28,6 +31,10 @@ pub record Figure : Type 0 where
 infix 30 _is_
 abbrev pub _is_ : ℕ → ℕ → Figure
 c is s = record { computed = c; stated = s }
+
+-- what the test of refusal 20, which every check and packing share, makes of three entries, of which the last is v
+abbrev pub ofThree : ℕ → Outcome
+ofThree v = belowPrimeAnswer 3 (leastFirst 8 1 ++ leastFirst 8 (p - 1) ++ leastFirst 8 v) Done
 
 abbrev pub table : List Figure
 table =
@@ -67,10 +74,14 @@ table =
     -- document 02, request 5: "append 22 wires", "append 34 rows"
     ∷ (wireCount (Axles 2 99) is 45591)
     ∷ (rowCount (Axles 2 99) is 65186)
-    -- "2^60 × 2 reads as 1; entry p reads as 0; entry 2^64 - 1 reads as 7"
-    ∷ (entry (leastFirst 8 (2 ^ 60 * 2)) 0 is 1)
-    ∷ (entry (leastFirst 8 p) 0 is 0)
-    ∷ (entry (leastFirst 8 (2 ^ 64 - 1)) 0 is 7)
+    -- "2^60 × 2 reads as 1", as numbers modulo p
+    ∷ (residue (2 ^ 60 * 2) is 1)
+    -- document 02, request 6: "Entries p and 2^64 - 1 stop reading as 0 and 7": they are refusal 20, which names their wire; p - 1 is below
+    ∷ (outcomeNumber (ofThree (p - 1)) is 0)
+    ∷ (outcomeNumber (ofThree p) is 20)
+    ∷ (getD (outcomeValues (ofThree p)) 0 0 is 2)
+    ∷ (outcomeNumber (ofThree (2 ^ 64 - 1)) is 20)
+    ∷ (getD (outcomeValues (ofThree (2 ^ 64 - 1))) 0 0 is 2)
     -- "P0(1) = 00020201; P1(1) = 00808001 (hexadecimal)"
     ∷ (P0 1 is 0x00020201)
     ∷ (P1 1 is 0x00808001)

@@ -7,7 +7,6 @@ ghost use Rattle.block.specs.Wires.{wiresPerBlock};
 ghost use Rattle.circuit.specs.declared.circuits.Circuit.the-variants.{Record};
 ghost use Rattle.sm3.specs.Message.{mostBits};
 use crate::line::show;
-use assignment::entry::raw;
 use assignment::entry::read;
 use assignment::wires::put_entry;
 use block::wire::ROUND_WIDTH;
@@ -23,11 +22,14 @@ use refusal::numbers::WireNumber;
 use sm3::message::MOST_BITS;
 use sm3::message::block_count;
 
+// The greatest number that an entry has room for, 2^64 - 1.
+const LARGEST: u64 = 18446744073709551615;
+
 // The check of an assignment with the entry of wire w set to v. The entry is then as it was.
 fn disturb(bits: u64, what: &[u8], digest: &[u8], assignment: &mut [u8], w: WireNumber, v: u64)
     requires { ⌜ 8 * (w .0 + 1) ≤ length (now assignment) ⌝ }
 {
-    let held = raw(assignment, w);
+    let held = read(assignment, w);
     put_entry(assignment, w, v);
     show(bits, what, check(bits, digest, assignment));
     put_entry(assignment, w, held);
@@ -80,6 +82,16 @@ fn change_message(bits: u64, digest: &[u8], assignment: &mut [u8])
     change(bits, b"record", digest, assignment, record);
 }
 
+// A wire that becomes 2, the greatest number below the prime, the prime, and the greatest number that an entry has room for.
+fn change_to_no_bit(bits: u64, digest: &[u8], assignment: &mut [u8], w: WireNumber)
+    requires { ⌜ 8 * (w .0 + 1) ≤ length (now assignment) ⌝ }
+{
+    disturb(bits, b"two", digest, assignment, w, 2);
+    disturb(bits, b"below", digest, assignment, w, P - 1);
+    disturb(bits, b"prime", digest, assignment, w, P);
+    disturb(bits, b"largest", digest, assignment, w, LARGEST);
+}
+
 // Wires of the last block: a carry of its last round, and the last wire of its result.
 fn change_last_block(bits: u64, digest: &[u8], assignment: &mut [u8])
     requires { ⌜ (bits ≤ mostBits) × (length (now assignment) ≡ 8 * wireCount (Record bits)) ⌝ }
@@ -87,7 +99,7 @@ fn change_last_block(bits: u64, digest: &[u8], assignment: &mut [u8])
     let last = last_block(bits);
     let carry = last.0 + ROUNDS + ROUND_WIDTH * 63 + TT2 + 33;
     change(bits, b"carry", digest, assignment, WireNumber(carry));
-    disturb(bits, b"two", digest, assignment, WireNumber(carry), 2);
+    change_to_no_bit(bits, digest, assignment, WireNumber(carry));
     let result = last.0 + BLOCK_WIRES - 1;
     change(bits, b"result", digest, assignment, WireNumber(result));
 }
@@ -129,11 +141,11 @@ fn change_lengths(bits: u64, digest: &[u8], assignment: &[u8])
     show(bits, b"short", short);
 }
 
-// p added to every entry.
+// p added to every entry, of which each is 0 or 1.
 fn add_p(assignment: &mut [u8]) {
     let n = assignment.len() as u64 / 8;
     for w in 0..n {
-        let v = P + read(assignment, WireNumber(w));
+        let v = P + read(assignment, WireNumber(w)) % 2;
         put_entry(assignment, WireNumber(w), v);
     }
 }

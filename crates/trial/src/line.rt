@@ -4,12 +4,20 @@ use refusal::outcome::Outcome;
 use refusal::outcome::Refusal;
 use refusal::outcome::number_of;
 
-// The number of a refusal, and the row that it names.
+// The row or the wire that a refusal names.
+fn print_named(number: u64) {
+    io::write_all(STDOUT_FILENO, b",");
+    io::print_decimal(STDOUT_FILENO, number);
+}
+
+// The number of a refusal, and the row or the wire that it names.
 fn print_refusal(refusal: Refusal) {
     io::print_decimal(STDOUT_FILENO, number_of(refusal));
     if let Refusal::Unsatisfied(row) = refusal {
-        io::write_all(STDOUT_FILENO, b",");
-        io::print_decimal(STDOUT_FILENO, row.0);
+        print_named(row.0);
+    }
+    if let Refusal::EntryNotBelowPrime(wire) = refusal {
+        print_named(wire.0);
     }
 }
 
@@ -23,7 +31,7 @@ fn print_outcome(outcome: Outcome) {
     }
 }
 
-// The line of a check: the record's length in bits, what was done, the refusal's number, and the row where it names one.
+// The line of a check: the record's length in bits, what was done, the refusal's number, and the row or the wire where it names one.
 pub fn show(bits: u64, what: &[u8], outcome: Outcome) {
     io::print_decimal(STDOUT_FILENO, bits);
     io::write_all(STDOUT_FILENO, b",");

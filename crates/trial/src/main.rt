@@ -1,7 +1,8 @@
 // Produces the assignments of records of 0, 55, 56, 64 and 1,015 bytes and of 8,127 bits whose byte k is k mod 251, checks them,
 // changes one thing at a time and checks again, held against the file `stdout`.
 //
-// Each check is a line: the record's length in bits, what was done, the refusal's number or 0 for none, and with refusal 9 the row.
+// Each check is a line: the record's length in bits, what was done, the refusal's number or 0 for none, with refusal 9 the row and
+// with refusal 20 the wire.
 // What was done, each time to the assignment as it was produced, where "changed" turns an entry 0 into 1 and 1 into 0:
 //     produced    nothing
 //     one         wire 0 is changed
@@ -11,6 +12,9 @@
 //     record      the wire of the record's last bit, where it has one, is changed
 //     carry       the lower carry of TT2 in the last round of the last block is changed
 //     two         the same carry becomes 2, which is no bit
+//     below       the same carry becomes p - 1
+//     prime       the same carry becomes p
+//     largest     the same carry becomes 2^64 - 1
 //     result      the last result wire of the last block is changed
 //     other       the digest that is held against has another first bit
 //     both        that digest's bit and the first digest wire are changed
