@@ -5,7 +5,6 @@ use mathlib.Core.Logic.{_↔_, by-cases}
 use mathlib.Core.Path.{_≡_, _∙_, subst, sym}
 use Prim.Native.Nat.{ℕ, _+_, _-_, _*_, _<_, _≤_}
 use native.Mathlib.Decide.{decLt}
-use native.Mathlib.Nat.{zero-add}
 use native.Mathlib.Omega.{arith}
 use borrow.Author.Count.{below-more, below-none}
 use borrow.Author.Tests.{le-ltb, lt-ltb, ltb-true}
@@ -43,6 +42,12 @@ one-seen {w} {i} {seen} {n} {bytes} e h =
     }
 
 -- The lowest entry that is not below the limit.
+
+found-some : (v : WireNumber) → NotBelow v ≡ AllBelow → ⊥
+found-some v e =
+    let z : _≡_ {A = ℕ} 0 1 = cc in
+    omega arith
+
 module _ (limit : ℕ) (bytes : List ℕ) where
   -- Of the wires from k on and below n.
   module _ (n k : ℕ) where
@@ -60,14 +65,28 @@ module _ (limit : ℕ) (bytes : List ℕ) where
       unfolding lowestNotBelow
       asked-not-below h = failing.lowest-fails _ _ AllBelow n k l (le-ltb (entry bytes k) limit h)
 
-  -- where all put together are below the limit
-  pub seen-below : (n x : ℕ) → x < limit → AtMost 0 n x bytes → lowestNotBelow limit bytes 0 n ≡ AllBelow
+  -- where the m entries from k on put together are below the limit
+  pub seen-below : (k m x : ℕ) → x < limit → AtMost k m x bytes → lowestNotBelow limit bytes k m ≡ AllBelow
   unfolding lowestNotBelow
-  seen-below n x few seen =
-      failing.lowest-none _ _ AllBelow 0 n
+  seen-below k m x few seen =
+      failing.lowest-none _ _ AllBelow k m
       (λ w l h.
-      lt-ltb (entry bytes w) limit
-      (omega (arith, subst (λ v. entry bytes v ≤ x) (zero-add w) (seen .each w (omega arith)))))
+      let place : k + (w - k) ≡ w = omega arith in
+      lt-ltb (entry bytes w) limit (omega (arith, subst (λ v. entry bytes v ≤ x) place (seen .each (w - k) (omega arith)))))
+
+  -- Of the wires from k on and below n the first m are asked: where these are below the limit the others decide, else it is among them.
+  module _ (n k m : ℕ) (l : k + m ≤ n) where
+    pub run-below : lowestNotBelow limit bytes k m ≡ AllBelow
+        → lowestNotBelow limit bytes k (n - k) ≡ lowestNotBelow limit bytes (k + m) (n - (k + m))
+    unfolding lowestNotBelow
+    run-below e = failing.lowest-past _ _ AllBelow n k m l (failing.none-all _ _ AllBelow (λ w. found-some _) k m e)
+
+    pub run-found : (v : WireNumber) → lowestNotBelow limit bytes k m ≡ NotBelow v → lowestNotBelow limit bytes k (n - k) ≡ NotBelow v
+    unfolding lowestNotBelow
+    run-found v e =
+        failing.lowest-parted _ _ AllBelow n k m l
+        ∙ failing.lowest-among _ _ AllBelow (λ w. found-some _) k m _ (λ none. found-some v (sym e ∙ none))
+        ∙ e
 
 -- An answer that refuses the lowest entry that is not below a limit.
 

@@ -1,6 +1,6 @@
 // The test that every entry of an assignment is below a limit, and below the prime.
 ghost use mathlib.Core.Path.{_≡_};
-ghost use Prim.Native.Nat.{_*_, _≤_};
+ghost use Prim.Native.Nat.{_-_, _*_, _≤_};
 ghost use lib.ListN.{length};
 ghost use Rattle.assignment.specs.BelowPrime.{belowPrimeAnswer};
 ghost use Rattle.assignment.specs.Bounded.{lowestNotBelow};
@@ -20,12 +20,12 @@ pub enum Lowest {
     NotBelow(WireNumber),
 }
 
-// The lowest of the first n entries that is not below the limit, if there is one: they are asked in their order.
-fn lowest_asked(assignment: &[u8], n: u64, limit: u64) -> Lowest
-    requires { ⌜ 8 * n ≤ length (now assignment) ⌝ }
-    ensures { λ r. ⌜ r ≡ lowestNotBelow limit (now (assignment .entry)) 0 n ⌝ }
+// The lowest of the entries from `from` on and below `to` that is not below the limit, if there is one: they are asked in their order.
+fn lowest_asked(assignment: &[u8], from: u64, to: u64, limit: u64) -> Lowest
+    requires { ⌜ (from ≤ to) × (8 * to ≤ length (now assignment)) ⌝ }
+    ensures { λ r. ⌜ r ≡ lowestNotBelow limit (now (assignment .entry)) from (to - from) ⌝ }
 {
-    for w in 0..n {
+    for w in from..to {
         if limit <= read(assignment, WireNumber(w)) {
             return Lowest::NotBelow(WireNumber(w));
         }
@@ -33,15 +33,33 @@ fn lowest_asked(assignment: &[u8], n: u64, limit: u64) -> Lowest
     Lowest::AllBelow
 }
 
-// The same. Where all entries put together are below the limit, as in an honest assignment, none has to be asked.
+// The same. Where all of them put together are below the limit none has to be asked.
+fn lowest_in_run(assignment: &[u8], from: u64, to: u64, limit: u64) -> Lowest
+    requires { ⌜ (from ≤ to) × (8 * to ≤ length (now assignment)) ⌝ }
+    ensures { λ r. ⌜ r ≡ lowestNotBelow limit (now (assignment .entry)) from (to - from) ⌝ }
+{
+    if seen_from(assignment, WireNumber(from), to - from) < limit {
+        return Lowest::AllBelow;
+    }
+    lowest_asked(assignment, from, to, limit)
+}
+
+// How many entries are put together at once: an entry that is not below the limit has as many asked.
+const RUN: u64 = 256;
+
+// The lowest of the first n entries that is not below the limit, if there is one, run by run.
 pub fn lowest_not_below(assignment: &[u8], n: u64, limit: u64) -> Lowest
     requires { ⌜ 8 * n ≤ length (now assignment) ⌝ }
     ensures { λ r. ⌜ r ≡ lowestNotBelow limit (now (assignment .entry)) 0 n ⌝ }
 {
-    if seen_from(assignment, WireNumber(0), n) < limit {
-        return Lowest::AllBelow;
+    let runs = n / RUN;
+    for j in 0..runs {
+        let lowest = lowest_in_run(assignment, RUN * j, RUN * (j + 1), limit);
+        if let Lowest::NotBelow(wire) = lowest {
+            return Lowest::NotBelow(wire);
+        }
     }
-    lowest_asked(assignment, n, limit)
+    lowest_in_run(assignment, RUN * runs, n, limit)
 }
 
 // Refusal 20 for the lowest of the first n entries that is p or more, if there is one.

@@ -1,7 +1,6 @@
 -- Before each turn all entries below wire w are below the limit, so the answer is that of the wires from w on.
-use mathlib.Core.Path.{_≡_, _∙_, ap, sym}
+use mathlib.Core.Path.{_≡_, _∙_, refl, sym}
 use Prim.Native.Nat.{_-_, _≤_}
-use native.Mathlib.Nat.{sub-zero}
 use native.Mathlib.Omega.{arith}
 use borrow.Author.Needs.{needs}
 use Rattle.assignment.proofs.EntriesBelow.{asked-below, asked-end, asked-not-below}
@@ -10,13 +9,14 @@ use Rattle.assignment.proofs.bounded.lowest_asked.Statement.{statement}
 use Rattle.assignment.proofs.bounded.lowest_asked.Tie as tie
 
 abbrev Inv-loop : tie.InvT-loop
-Inv-loop assignment n limit w₀ w = (w ≤ n) × (lowestNotBelow limit assignment 0 n ≡ lowestNotBelow limit assignment w (n - w))
+Inv-loop assignment from to limit w₀ w =
+    (w ≤ to) × (lowestNotBelow limit assignment from (to - from) ≡ lowestNotBelow limit assignment w (to - w))
 
 abbrev μ-loop : tie.MeasureT-loop
-μ-loop assignment n limit w₀ w = n - w
+μ-loop assignment from to limit w₀ w = to - w
 
 loop-holds : tie.Need-loop-holds Inv-loop μ-loop
-loop-holds c = (omega arith, ap (lowestNotBelow _ _ 0) (sym (sub-zero _)))
+loop-holds c = (omega arith, refl)
 
 read-requires : tie.Need-read-requires Inv-loop μ-loop
 read-requires c κs = search needs

@@ -1,22 +1,107 @@
--- Where what was seen of all entries is below the limit, each of them is.
-use mathlib.Core.Path.{sym}
+-- Before each turn all entries of the runs before are below the limit, so the answer is that of the wires from there on; a run that has an
+-- entry that is not decides it.
+use mathlib.Core.Path.{_≡_, _∙_, ap, sym}
+use Prim.Native.Nat.{ℕ, _+_, _-_, _*_, _/_, _≤_}
+use native.Mathlib.Nat.{sub-zero}
+use native.Mathlib.Omega.{arith}
 use borrow.Author.Needs.{needs}
-use Rattle.assignment.proofs.EntriesBelow.{seen-below}
+use Rattle.assignment.proofs.EntriesBelow.{run-below, run-found}
+use Rattle.assignment.specs.Bounded.{lowestNotBelow}
 use Rattle.assignment.proofs.bounded.lowest_not_below.Statement.{statement}
 use Rattle.assignment.proofs.bounded.lowest_not_below.Tie as tie
 
-seen-from-requires : tie.Need-seen-from-requires
-seen-from-requires c κs = search needs
+-- run j has 256 entries
+run-length : (j : ℕ) → 256 ≡ 256 * (j + 1) - 256 * j
+run-length j = omega arith
 
-returns : tie.Need-returns
-returns c = sym (seen-below _ _ _ _ (c .if1 .taken) (c .before .seen-from .ensures))
+next-run : (j : ℕ) → 256 * j + 256 ≡ 256 * (j + 1)
+next-run j = omega arith
 
-lowest-asked-requires : tie.Need-lowest-asked-requires
-lowest-asked-requires c κs = search needs
+abbrev Inv-loop : tie.InvT-loop
+Inv-loop assignment n limit runs j₀ j =
+    (j ≤ runs) × (lowestNotBelow limit assignment 0 n ≡ lowestNotBelow limit assignment (256 * j) (n - 256 * j))
 
-returns-2 : tie.Need-returns-2
-returns-2 c = c .lowest-asked .ensures
+abbrev μ-loop : tie.MeasureT-loop
+μ-loop assignment n limit runs j₀ j = runs - j
+
+loop-holds : tie.Need-loop-holds Inv-loop μ-loop
+loop-holds c = (omega arith, ap (lowestNotBelow _ _ 0) (sym (sub-zero _)))
+
+mul-lowest-in-run : tie.Need-mul-lowest-in-run Inv-loop μ-loop
+mul-lowest-in-run c = search needs
+
+add-lowest-in-run : tie.Need-add-lowest-in-run Inv-loop μ-loop
+add-lowest-in-run c = search needs
+
+mul-lowest-in-run-2 : tie.Need-mul-lowest-in-run-2 Inv-loop μ-loop
+mul-lowest-in-run-2 c = search needs
+
+lowest-in-run-requires : tie.Need-lowest-in-run-requires Inv-loop μ-loop
+lowest-in-run-requires c κs = search needs
+
+enum-known-lowest : tie.Need-enum-known-lowest Inv-loop μ-loop
+enum-known-lowest c = search needs
+
+returns : tie.Need-returns Inv-loop μ-loop
+returns c =
+    let asked = c .before .before .before in
+    let l = asked .before .before .loop in
+    sym
+    (l .inv .1
+    ∙ run-found _ _ _ (256 * l .j) 256 (omega arith) _
+    (ap (lowestNotBelow _ _ (256 * l .j)) (run-length (l .j)) ∙ sym (asked .lowest-in-run .ensures) ∙ c .before .lowest .given .1))
+
+enum-told : tie.Need-enum-told Inv-loop μ-loop
+enum-told c = search needs
+
+add-j : tie.Need-add-j Inv-loop μ-loop
+add-j c = search needs
+
+loop-less : tie.Need-loop-less Inv-loop μ-loop
+loop-less c = search needs
+
+loop-again : tie.Need-loop-again Inv-loop μ-loop
+loop-again c =
+    let asked = c .before .before in
+    let l = asked .before .before .loop in
+    let a = asked .before .before .before .before .args in (
+      omega arith,
+      l .inv .1
+          ∙ run-below _ _ _ (256 * l .j) 256 (omega arith)
+          (ap (lowestNotBelow _ _ (256 * l .j)) (run-length (l .j)) ∙ sym (asked .lowest-in-run .ensures) ∙ c .enum-told .given .1)
+          ∙ ap (λ k. lowestNotBelow (a .limit) (a .assignment .now) k (a .n - k)) (next-run (l .j)),
+    )
+
+mul-lowest-in-run-3 : tie.Need-mul-lowest-in-run-3 Inv-loop μ-loop
+mul-lowest-in-run-3 c = search needs
+
+lowest-in-run-requires-2 : tie.Need-lowest-in-run-requires-2 Inv-loop μ-loop
+lowest-in-run-requires-2 c κs = search needs
+
+returns-2 : tie.Need-returns-2 Inv-loop μ-loop
+returns-2 c =
+    let l = c .before .before .loop in
+    let a = c .before .before .before .before .args in
+    let last : 256 * (a .n / 256) ≡ 256 * l .j = omega arith in
+    c .lowest-in-run2 .ensures ∙ ap (λ k. lowestNotBelow (a .limit) (a .assignment .now) k (a .n - k)) last ∙ sym (l .inv .1)
 
 pub lowest-not-below-spec : {M : Type 1} → statement M
 lowest-not-below-spec =
-    tie.close (tie.spec seen-from-requires returns lowest-asked-requires returns-2)
+    tie.close
+    (tie.spec
+    Inv-loop
+    μ-loop
+    loop-holds
+    mul-lowest-in-run
+    add-lowest-in-run
+    mul-lowest-in-run-2
+    lowest-in-run-requires
+    enum-known-lowest
+    returns
+    enum-told
+    add-j
+    loop-less
+    loop-again
+    mul-lowest-in-run-3
+    lowest-in-run-requires-2
+    returns-2)
