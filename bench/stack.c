@@ -39,9 +39,15 @@ static uint64_t call_produce(uint64_t bits)
     return sm3rows_produce(bits, record, SM3ROWS_RECORD_BYTES(bits), out, sizeof out);
 }
 
+/* A right claim, and the same with its last entry turned over: rows are judged by their terms only where one fails. */
 static uint64_t call_check(uint64_t bits)
 {
-    return sm3rows_check(bits, digest, sizeof digest, out, SM3ROWS_ASSIGNMENT_BYTES(bits));
+    size_t size = SM3ROWS_ASSIGNMENT_BYTES(bits);
+    uint64_t right = sm3rows_check(bits, digest, sizeof digest, out, size);
+    out[size - 8] ^= 1;
+    uint64_t wrong = sm3rows_check(bits, digest, sizeof digest, out, size);
+    out[size - 8] ^= 1;
+    return right | (SM3ROWS_REFUSAL(wrong) != 9);
 }
 
 static uint64_t call_pack(uint64_t bits)
@@ -76,7 +82,11 @@ static uint64_t call_seal(uint64_t bits)
 static uint64_t call_passage_check(uint64_t bits)
 {
     (void)bits;
-    return check_line();
+    uint64_t right = check_line(), *last = &line_assignment[sizeof line_assignment / 8 - 1];
+    *last ^= 1;
+    uint64_t wrong = check_line();
+    *last ^= 1;
+    return right | (PASSAGE_REFUSAL(wrong) != 9);
 }
 
 /* And the row library's for axles between two bounds. */
