@@ -2,16 +2,17 @@
 -- number below 256^n that they were written from.
 use mathlib.Core.List.{List}
 use mathlib.Core.Path.{_≡_, _∙_, ap, ap₂, fun-ext, refl, sym}
-use Prim.Native.Nat.{ℕ, zero, suc, _+_, _*_, _/_, _%_, _^_, _<_}
+use Prim.Native.Nat.{ℕ, zero, suc, _+_, _-_, _*_, _/_, _%_, _^_, _<_}
 use native.Mathlib.Nat.{add-zero, div-div-eq-div-mul, div-one, mod-one, one-le-pow, pow-suc, pow-succ', suc-add, zero-add}
 use native.Mathlib.Numerals.{add-one}
 use native.Mathlib.Omega.{arith}
 use lib.Arith.{mod-mul}
 use lib.Dec.{lit<, lit≤}
+use lib.IntN.{ℤ, negsuc, pos}
 use lib.ListN.{getD, length, set}
 use Rattle.encoding.proofs.Tab.{getD-tab, length-tab}
 use Rattle.encoding.proofs.Written.{written-one, written-then}
-use Rattle.encoding.specs.Bytes.{Bytes, fromLeastFirst, highestFirst, leastFirst}
+use Rattle.encoding.specs.Bytes.{Bytes, fromLeastFirst, highestFirst, leastFirst, twosComplement}
 use Rattle.encoding.specs.Sequence.{tab}
 use Rattle.encoding.specs.Written.{Written}
 
@@ -77,6 +78,11 @@ length-highest-first n v = length-tab n _
 pub length-least-first : (n v : ℕ) → length (leastFirst n v) ≡ n
 unfolding leastFirst
 length-least-first n v = length-tab n _
+
+pub length-twos-complement : (n : ℕ) (z : ℤ) → length (twosComplement n z) ≡ n
+unfolding twosComplement
+length-twos-complement n (pos x) = length-least-first n x
+length-twos-complement n (negsuc x) = length-least-first n (256 ^ n - suc x)
 
 -- a number's next byte, and what is left of the number
 pub next-byte : {l l′ : List ℕ} (at i x : ℕ) → Written at (leastFirst i x) l l′

@@ -1,5 +1,6 @@
 pub mod Congruence
 pub mod Prime
+pub mod Residue
 mod Lucas
 mod PowerOrder
 mod Pigeonhole

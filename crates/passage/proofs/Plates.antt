@@ -11,8 +11,9 @@ use borrow.Author.Tests.{eq-eqb, eqb-false, ne-eqb, not-true}
 use lib.Dec.{eqb}
 use lib.ListN.{getD}
 use Rattle.passage.specs.Exact.{Every, PlateForm}
-use Rattle.passage.specs.Format.{follows, hyphen, isPlateByte}
+use Rattle.passage.specs.Format.{follows, isPlateByte}
 use Rattle.text.specs.Decimal.{isDigit, isDigitOr}
+use Rattle.text.specs.Text.{hyphen}
 
 -- a `-` is no letter and no digit
 hyphen-no-letter : (c : ℕ) → isPlateByte c ≡ true → c ≡ hyphen → ⊥

@@ -6,13 +6,13 @@ use mathlib.Core.Logic.{_↔_}
 use mathlib.Core.Path.{_≡_}
 use Prim.Native.Nat.{ℕ, _+_, _-_, _<_, _≤_}
 use lib.ListN.{getD, length}
-use Rattle.passage.specs.Format.{hyphen, isPlateByte, numberFrom}
+use Rattle.passage.specs.Format.{isPlateByte, numberFrom}
 use Rattle.passage.specs.Read.{readAnswer}
 use Rattle.passage.specs.declared.numbers.Numbers.{Numbers}
 use Rattle.passage.specs.declared.read.Reading.the-variants.{Given}
 use Rattle.text.specs.Decimal.{isDigit}
 use Rattle.text.specs.Hex.{isHex}
-use Rattle.text.specs.Text.{comma}
+use Rattle.text.specs.Text.{comma, hyphen}
 
 -- each of the n bytes of s from place `at` on passes the test
 abbrev pub Every : (ℕ → Bool) → List ℕ → ℕ → ℕ → Type 0

@@ -10,7 +10,7 @@ use Rattle.passage.specs.declared.format.Kind.the-variants.{Digit, Class
 use Rattle.passage.specs.declared.format.Kind.{Kind}
 use Rattle.text.specs.Decimal.{isDigit, isDigitOr}
 use Rattle.text.specs.Hex.{isHex}
-use Rattle.text.specs.Text.{comma}
+use Rattle.text.specs.Text.{comma, hyphen}
 
 -- a field: its first place in the line, from 0, and how many places it has
 pub record Field : Type 0 where
@@ -59,10 +59,6 @@ kindAt k =
     (cond (eqb k (plate .first)) PlateFirst
     (cond (within plate k) PlateNext
     (cond (within blind k) Hex Comma))))))
-
--- '-' in ASCII
-abbrev pub hyphen : ℕ
-hyphen = 45
 
 -- "A to Z and 0 to 9"
 unfoldable pub isPlateByte : ℕ → Bool

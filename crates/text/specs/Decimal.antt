@@ -3,6 +3,8 @@ use mathlib.Core.Bool.{Bool, cond, _&&_, _||_}
 use mathlib.Core.List.{List, [], _∷_, _++_}
 use Prim.Native.Nat.{ℕ, zero, suc, _+_, _/_, _%_}
 use lib.Dec.{leb, ltb}
+use lib.IntN.{ℤ, negsuc, pos}
+use Rattle.text.specs.Text.{hyphen}
 
 -- whether c is a digit in ASCII
 unfoldable pub isDigit : ℕ → Bool
@@ -28,3 +30,8 @@ decimal x = digits (suc x) x
 -- x and the byte after it
 unfoldable pub field : ℕ → ℕ → List ℕ
 field x stop = decimal x ++ (stop ∷ [])
+
+-- a signed number and the byte after it: "with a leading `-`" (document 02, request 7); `negsuc x` is -(x + 1)
+unfoldable pub signedField : ℤ → ℕ → List ℕ
+signedField (pos x) stop = field x stop
+signedField (negsuc x) stop = hyphen ∷ field (suc x) stop

@@ -13,5 +13,8 @@ ascii (Text._∷_ c s) = code c ∷ ascii s
 abbrev pub comma : ℕ
 comma = 44
 
+abbrev pub hyphen : ℕ
+hyphen = 45
+
 abbrev pub lineFeed : ℕ
 lineFeed = 10
