@@ -4,3 +4,4 @@ pub mod Congruent
 pub mod Counts
 pub mod exact
 pub mod Exactness
+pub mod Unaltered

@@ -1,6 +1,7 @@
 pub mod Band
 pub mod Check
 pub mod Exact
+pub mod Former
 pub mod Layout
 pub mod Produce
 pub mod RowAnswer

@@ -1,3 +1,4 @@
 pub mod AxlesApart
+pub mod Coefficients
 pub mod RowApart
 pub mod Shape

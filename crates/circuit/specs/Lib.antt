@@ -1,6 +1,7 @@
 pub mod Axles
 pub mod Circuit
 pub mod Circuits
+pub mod Former
 pub mod Frame
 pub mod GivenRow
 pub mod Places

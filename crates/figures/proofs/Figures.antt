@@ -8,11 +8,13 @@ use Rattle.circuit.specs.Wires.{wireCount}
 use Rattle.circuit.specs.Places.{rowCount}
 use Rattle.record.specs.RowAnswer.{rowAnswer}
 use Rattle.encoding.specs.Bits.{bitOfBytes, number}
-use Rattle.encoding.specs.Bytes.{fromLeastFirst, leastFirst}
+use Rattle.encoding.specs.Bytes.{fromLeastFirst, leastFirst, twosComplement}
 use Rattle.encoding.specs.Lowest.{lowestFailing}
 use Rattle.encoding.specs.Packed.{spareBits}
 use Rattle.encoding.specs.Sequence.{tab}
+use Rattle.field.specs.Field.{residue}
 use Rattle.figures.specs.Figures.{Figure, table}
+use Rattle.forms.specs.Coefficients.{signed}
 use Rattle.listing.specs.Line.{parseOf}
 use Rattle.listing.specs.Request.{checked, requestOf, within}
 use Rattle.sm3.specs.Handed.{handedAnswer}
@@ -23,5 +25,5 @@ use Rattle.text.specs.Decimal.{isDigit}
 use Rattle.text.specs.Field.{continues, fieldFrom, fieldOf}
 
 pub figures : map (λ (f : Figure). f .computed) table ≡ map (λ (f : Figure). f .stated) table
-unfolding blocks wireCount rowCount handedAnswer spareBits number bitOfBytes rowAnswer checkAnswer limitAnswer lowestFailing entry leastFirst fromLeastFirst tab P0 P1 rotatedConstant constant rotateLeft requestOf checked within parseOf fieldOf fieldFrom continues isDigit
+unfolding residue signed twosComplement blocks wireCount rowCount handedAnswer spareBits number bitOfBytes rowAnswer checkAnswer limitAnswer lowestFailing entry leastFirst fromLeastFirst tab P0 P1 rotatedConstant constant rotateLeft requestOf checked within parseOf fieldOf fieldFrom continues isDigit
 figures = refl

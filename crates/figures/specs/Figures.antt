@@ -2,6 +2,7 @@
 -- bits, the unit that document 02's request 2 gives every figure. The definitions are the ones that the contracts cite.
 use mathlib.Core.List.{List, [], _∷_, _++_}
 use Prim.Native.Nat.{ℕ, _-_, _*_, _^_}
+use lib.IntN.{pos}
 use lib.ListN.{getD}
 use Rattle.assignment.specs.BelowPrime.{belowPrimeAnswer}
 use Rattle.circuit.specs.declared.circuits.Circuit.the-variants.{Axles, Record}
@@ -11,9 +12,10 @@ use Rattle.circuit.specs.Wires.{wireCount}
 use Rattle.circuit.specs.Places.{rowCount}
 use Rattle.circuit.specs.GivenRow.{rowBytes, rowNumber}
 use Rattle.record.specs.RowAnswer.{rowAnswer}
-use Rattle.encoding.specs.Bytes.{leastFirst}
+use Rattle.encoding.specs.Bytes.{fromLeastFirst, leastFirst, twosComplement}
 use Rattle.encoding.specs.Packed.{packedLength}
 use Rattle.field.specs.Field.{p, residue}
+use Rattle.forms.specs.Coefficients.{signed}
 use Rattle.listing.specs.Request.{requestNumber, requestOf}
 use Rattle.listing.specs.declared.request.Front.the-variants.{Length}
 use Rattle.refusal.specs.Refusals.{outcomeNumber, outcomeValues}
@@ -35,6 +37,10 @@ c is s = record { computed = c; stated = s }
 -- what the test of refusal 20, which every check and packing share, makes of three entries, of which the last is v
 abbrev pub ofThree : ℕ → Outcome
 ofThree v = belowPrimeAnswer 3 (leastFirst 8 1 ++ leastFirst 8 (p - 1) ++ leastFirst 8 v) Done
+
+-- the number that the 8 bytes of the coefficient of a residue k write, the least first, without regard to its sign
+abbrev pub coefficientBytes : ℕ → ℕ
+coefficientBytes k = fromLeastFirst 8 (twosComplement 8 (signed k)) 0
 
 abbrev pub table : List Figure
 table =
@@ -75,7 +81,13 @@ table =
     ∷ (wireCount (Axles 2 99) is 45591)
     ∷ (rowCount (Axles 2 99) is 65186)
     -- "2^60 × 2 reads as 1", as numbers modulo p
-    ∷ (residue (2 ^ 60 * 2) is 1)
+    ∷ (residue (pos (2 ^ 60 * 2)) is 1)
+    -- document 02, request 7: "A coefficient above (p - 1) / 2 is given minus p: in the row buffer as 8 bytes two's complement": (p - 1) / 2
+    -- is given as it is, the residue above it as -(p - 1) / 2, and p - 1 as -1, which is p - 1 modulo p
+    ∷ (coefficientBytes 1152921504606846975 is 1152921504606846975)
+    ∷ (coefficientBytes 1152921504606846976 is 2 ^ 64 - 1152921504606846975)
+    ∷ (coefficientBytes (p - 1) is 0xffffffffffffffff)
+    ∷ (residue (signed (p - 1)) is p - 1)
     -- document 02, request 6: "Entries p and 2^64 - 1 stop reading as 0 and 7": they are refusal 20, which names their wire; p - 1 is below
     ∷ (outcomeNumber (ofThree (p - 1)) is 0)
     ∷ (outcomeNumber (ofThree p) is 20)

@@ -13,7 +13,7 @@
 // The rows are document 01's, each a line: the refusal's number, 0 for none, the counts of A, B and C, and three terms,
 // each a wire and a coefficient. Row 256 fixes wire 513 to 1 at 0 bits; at 1 byte, and at 1 bit too, it is a bit row, with p - 1
 // on wire 0 in B; at 1 bit row 257 fixes wire 514 to 1; row 32,576 at 0 bits has wires 1 (1) and 22,785 (p - 1) in A; row 32,832
-// at 0 bits is refusal 3.
+// at 0 bits is refusal 3. Document 02's request 7 gives p - 1 as -1.
 ghost use Prim.Native.Nat.{_+_, _≤_};
 ghost use Rattle.circuit.specs.GivenRow.{rowBytes};
 ghost use Rattle.sm3.specs.Message.{mostBits};
@@ -27,6 +27,9 @@ use record::row::row;
 use refusal::numbers::RowNumber;
 use refusal::outcome::number_of;
 use sample::counted;
+
+// 2^63, from which on eight bytes of two's complement are negative.
+const SIGN_BIT: u64 = 9223372036854775808;
 
 // The hexadecimal digit of a number's lowest four bits.
 fn hex_digit(x: u8) -> u8 {
@@ -66,12 +69,22 @@ fn print_number(x: u64) {
     io::write_all(STDOUT_FILENO, b" ");
 }
 
+// The number whose two's complement in eight bytes is x, in decimal, and a blank.
+fn print_signed(x: u64) {
+    if x < SIGN_BIT {
+        print_number(x);
+        return;
+    }
+    io::write_all(STDOUT_FILENO, b"-");
+    print_number(std::num::wrapping_sub_u64(0, x));
+}
+
 // The wire and the coefficient of the term in twelve bytes from `at` on.
 fn print_term(bytes: &[u8; ROW_BYTES], at: usize)
     requires { ⌜ at + 12 ≤ rowBytes ⌝ }
 {
     print_number(four_bytes(bytes, at));
-    print_number(eight_bytes(bytes, at + 4));
+    print_signed(eight_bytes(bytes, at + 4));
 }
 
 // The counts of a row and its first three terms.

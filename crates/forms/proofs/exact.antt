@@ -3,6 +3,7 @@ pub mod Differences
 pub mod Forms
 pub mod Parts
 pub mod Runs
+pub mod Signed
 pub mod Sums
 pub mod Values
 pub mod Words

@@ -1,4 +1,6 @@
 pub mod Bounds
+pub mod Coefficients
+pub mod Former
 pub mod Positions
 pub mod Rows
 pub mod Shape

@@ -2,10 +2,10 @@
 use crate::position::WordPosition;
 use refusal::numbers::WireNumber;
 
-// A wire and its coefficient.
+// A wire and the residue of its coefficient modulo p.
 pub struct Term {
     pub wire: WireNumber,
-    pub coefficient: u64,
+    pub residue: u64,
 }
 
 // Two words, or four where `four` is true, that are added up.

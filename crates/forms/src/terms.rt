@@ -1,4 +1,4 @@
-// The terms of a row form, in a lent buffer of numbers: wire, coefficient, wire, coefficient, ..
+// The terms of a row form, in a lent buffer of numbers: wire, residue, wire, residue, ..
 ghost use mathlib.Core.List.{[], _∷_, _++_};
 ghost use mathlib.Core.Path.{_≡_};
 ghost use Prim.Native.Nat.{ℕ, _+_, _-_, _*_, _<_, _≤_, _^_};
@@ -39,13 +39,13 @@ pub struct Counts {
     pub c: usize,
 }
 
-// Writes a term behind the first n: a wire and its coefficient.
-fn push(terms: &mut [u64], n: usize, wire: WireNumber, coefficient: u64)
+// Writes a term behind the first n: a wire and the residue of its coefficient.
+fn push(terms: &mut [u64], n: usize, wire: WireNumber, residue: u64)
     requires { ⌜ 2 * n + 2 ≤ length (now terms) ⌝ }
-    ensures { λ _. ⌜ Written (2 * n) (flat (coefficient · wire ∷ [])) (now (terms .entry)) (now (terms .exit)) ⌝ }
+    ensures { λ _. ⌜ Written (2 * n) (flat (residue · wire ∷ [])) (now (terms .entry)) (now (terms .exit)) ⌝ }
 {
     terms[2 * n] = wire.0;
-    terms[2 * n + 1] = coefficient;
+    terms[2 * n + 1] = residue;
 }
 
 // Writes k times wire 0 behind the first n terms, unless k is 0; how many terms that is.
@@ -60,7 +60,7 @@ fn push_constant(terms: &mut [u64], n: usize, k: u64) -> usize
     1
 }
 
-// Writes three wires with one coefficient behind the first n terms.
+// Writes three wires with one residue behind the first n terms.
 fn push_three(terms: &mut [u64], n: usize, x: WireNumber, y: WireNumber, z: WireNumber, k: u64)
     requires { ⌜ 2 * n + 6 ≤ length (now terms) ⌝ }
     ensures { λ _. ⌜ Written (2 * n) (flat (k · x ∷ k · y ∷ k · z ∷ [])) (now (terms .entry)) (now (terms .exit)) ⌝ }
@@ -134,9 +134,9 @@ fn push_summands(terms: &mut [u64], s: Addends, constant: u64) -> usize
 }
 
 // k put on, or taken off.
-fn signed(plus: bool, k: u64) -> u64
+fn with_sign(plus: bool, k: u64) -> u64
     requires { ⌜ k ≤ p ⌝ }
-    ensures { λ r. ⌜ r ≡ rows.signed plus k ⌝ }
+    ensures { λ r. ⌜ r ≡ rows.withSign plus k ⌝ }
 {
     if plus {
         return k;
@@ -155,7 +155,7 @@ fn push_number(terms: &mut [u64], n: usize, plus: bool, k: u64, width: u64, w: W
             terms,
             n + i as usize,
             wire_past(w, i),
-            signed(plus, k * weight),
+            with_sign(plus, k * weight),
         );
     }
 }
@@ -307,7 +307,7 @@ fn fill_difference(
     ensures { λ counts. ⌜ Filled (unsorted (Difference digits above bound width r)) counts (now (terms .entry)) (now (terms .exit)) ⌝ }
 {
     let n = push_digits(terms, above, digits);
-    push(terms, n, WireNumber(0), signed(!above, bound));
+    push(terms, n, WireNumber(0), with_sign(!above, bound));
     push_number(terms, n + 1, false, 1, width, r);
     let a = n + 1 + width as usize;
     push(terms, a, WireNumber(0), 1);

@@ -115,7 +115,7 @@ refusing l n BadLine never = (refl, refl)
 refusing l n (Refused r) never = (refl, refl)
 
 -- the first line and the refusal have room, and a large buffer has room for a row
-pub room-bounds : (l : Listing) → (106 ≤ room l) × (room l ≤ 10595)
+pub room-bounds : (l : Listing) → (106 ≤ room l) × (room l ≤ 10758)
 room-bounds listing.Rows = omega arith
 room-bounds listing.Steps = omega arith
 

@@ -5,7 +5,8 @@ use mathlib.Core.Path.{_≡_, refl, sym, ap, ap₂, _∙_}
 use Prim.Native.Nat.{ℕ, suc, _+_}
 use native.Mathlib.Omega.{arith}
 use lib.ListN.{length, length-append}
-use Rattle.forms.proofs.terms.Flat.{coefficient-at, wire-at}
+use Rattle.forms.proofs.terms.Flat.{residue-at, wire-at}
+use Rattle.forms.specs.Coefficients.{signed}
 use Rattle.forms.specs.Rows.{Row, terms}
 use Rattle.forms.specs.Terms.{flat}
 use Rattle.forms.specs.declared.form.Term.{Term}
@@ -25,7 +26,7 @@ module _ (row part : ℕ) where
       ∙ ap₂ (λ (l m : List ℕ). l ++ m)
       (ap₂ (termLine row part)
       (wire-at before rest t (ts ++ after) (length before) refl)
-      (coefficient-at before rest t (ts ++ after) (length before) refl))
+      (ap signed (residue-at before rest t (ts ++ after) (length before) refl)))
       (ap₂ (λ (held : List ℕ) (k : ℕ). heldLines row part held k (length ts)) moved counted
       ∙ held-part ts (before ++ (t ∷ [])) after rest)
     where

@@ -1,20 +1,40 @@
 // The lines of a row's terms: `row,part,wire,coefficient`.
-ghost use Prim.Native.Nat.{_+_, _*_, _<_, _≤_};
-ghost use lib.ListN.{length};
+ghost use Prim.Native.Nat.{ℕ, _+_, _*_, _<_, _≤_};
+ghost use lib.ListN.{getD, length};
 ghost use Rattle.circuit.specs.Places.{rowCount};
 ghost use Rattle.circuit.specs.Ranges.{Allowed};
+ghost use Rattle.field.specs.Field.{p};
+ghost use Rattle.forms.specs.Coefficients.{signed};
 ghost use Rattle.forms.specs.Terms.{termRoom};
 ghost use Rattle.listing.specs.Held.{heldLines};
 ghost use Rattle.listing.specs.Rows.{lineRoom, rowLines, rowRoom, termLine};
+ghost use Rattle.text.specs.Decimal.{signedField};
 ghost use Rattle.text.specs.Put.{Put};
+ghost use Rattle.text.specs.Text.{lineFeed};
 use circuit::circuits::Circuit;
 use circuit::row::row_terms;
+use forms::coefficient::Signed;
+use forms::coefficient::coefficient_of;
 use refusal::numbers::RowNumber;
 use refusal::numbers::WireNumber;
 use text::decimal::put_field;
 
-// How many bytes the lines of a row take at most: 163 terms, each of a line of at most 65 bytes.
-pub const ROW_ROOM: usize = 163 * 65;
+// How many bytes the lines of a row take at most: 163 terms, each of a line of at most 66 bytes.
+pub const ROW_ROOM: usize = 163 * 66;
+
+// The coefficient whose residue is k, and the end of the line.
+fn put_coefficient(out: &mut [u8], at: usize, k: u64) -> usize
+    requires { ⌜ (at + 22 ≤ length (now out)) × (k < p) ⌝ }
+    ensures { λ r. ⌜ Put (now (out .entry)) at (signedField (signed k) lineFeed) (now (out .exit)) r × (r ≤ at + 22) ⌝ }
+{
+    match coefficient_of(k) {
+        Signed::Plus(n) => put_field(out, at, n, b'\n'),
+        Signed::Minus(n) => {
+            out[at] = b'-';
+            put_field(out, at + 1, n, b'\n')
+        }
+    }
+}
 
 // The line of a term.
 pub fn put_term_line(
@@ -23,16 +43,16 @@ pub fn put_term_line(
     row: RowNumber,
     part: u8,
     wire: WireNumber,
-    coefficient: u64,
+    residue: u64,
 ) -> usize
-    requires { ⌜ at + lineRoom ≤ length (now out) ⌝ }
-    ensures { λ r. ⌜ Put (now (out .entry)) at (termLine (row .0) part (wire .0) coefficient) (now (out .exit)) r × (r ≤ at + lineRoom) ⌝ }
+    requires { ⌜ (at + lineRoom ≤ length (now out)) × (residue < p) ⌝ }
+    ensures { λ r. ⌜ Put (now (out .entry)) at (termLine (row .0) part (wire .0) (signed residue)) (now (out .exit)) r × (r ≤ at + lineRoom) ⌝ }
 {
     let a = put_field(out, at, row.0, b',');
     out[a] = part;
     out[a + 1] = b',';
     let b = put_field(out, a + 2, wire.0, b',');
-    put_field(out, b, coefficient, b'\n')
+    put_coefficient(out, b, residue)
 }
 
 // The lines of a part of so many terms, which `terms` holds from its term `from` on.
@@ -45,7 +65,7 @@ fn put_part(
     from: usize,
     many: usize,
 ) -> usize
-    requires { ⌜ (at + lineRoom * many ≤ length (now out)) × (2 * (from + many) ≤ length (now terms)) ⌝ }
+    requires { ⌜ (at + lineRoom * many ≤ length (now out)) × (2 * (from + many) ≤ length (now terms)) × ((t : ℕ) → t < from + many → getD (now terms) (2 * t + 1) 0 < p) ⌝ }
     ensures { λ r. ⌜ Put (now (out .entry)) at (heldLines (row .0) part (now (terms .entry)) from many) (now (out .exit)) r × (r ≤ at + lineRoom * many) ⌝ }
 {
     let mut end = at;

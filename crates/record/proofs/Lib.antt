@@ -2,4 +2,5 @@ pub mod Accepted
 pub mod Demand3
 pub mod DigestBits
 pub mod exact
+pub mod Unaltered
 pub mod WholeBytes

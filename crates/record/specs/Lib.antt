@@ -1,5 +1,6 @@
 pub mod Check
 pub mod Demand3
+pub mod Former
 pub mod Layout
 pub mod Produce
 pub mod RowAnswer

@@ -1,3 +1,4 @@
 pub mod Acceptance
 pub mod Agreeing
 pub mod Lowest
+pub mod Unaltered

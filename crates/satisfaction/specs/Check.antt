@@ -29,9 +29,10 @@ abbrev pub afterRows : Verdict → Outcome
 afterRows AllSatisfied = Done
 afterRows (Fails k) = Refused (Unsatisfied k)
 
--- the check of an assignment of a circuit against a digest, in the paper's order, behind the refusals of the circuit's own
-unfoldable pub circuitCheck : Circuit → List ℕ → List ℕ → Outcome
-circuitCheck c digest assignment =
+-- an assignment of a circuit and a digest, as far as they are judged before the rows, in the paper's order, behind the refusals of the
+-- circuit's own; then `judged`
+abbrev pub beforeRows : Circuit → List ℕ → List ℕ → Outcome → Outcome
+beforeRows c digest assignment judged =
     -- "5. The digest that an assignment is held against is not 32 bytes."
     cond (not (eqb (length digest) 32)) (Refused DigestNot32)
     -- "6. An assignment of 8-byte entries handed over to be read is not exactly 8 × wires bytes."
@@ -41,6 +42,10 @@ circuitCheck c digest assignment =
     -- "7. Wire 0 does not read as 1."
     (cond (not (eqb (entry assignment 0) 1)) (Refused WireZero)
     -- "8. A digest wire does not read as its bit of the digest."
-    (cond (not (same 256 (λ k. entry assignment (1 + k)) (bitOfBytes digest))) (Refused DigestWire)
-    -- "9. A row is not satisfied; the lowest row that is not satisfied is returned with it."
-    (afterRows (lowest (entry assignment) (rowAt c) 0 (rowCount c)))))))
+    (cond (not (same 256 (λ k. entry assignment (1 + k)) (bitOfBytes digest))) (Refused DigestWire) judged))))
+
+-- the check of an assignment of a circuit against a digest: "9. A row is not satisfied; the lowest row that is not satisfied is returned
+-- with it."
+unfoldable pub circuitCheck : Circuit → List ℕ → List ℕ → Outcome
+circuitCheck c digest assignment =
+    beforeRows c digest assignment (afterRows (lowest (entry assignment) (rowAt c) 0 (rowCount c)))

@@ -6,9 +6,9 @@ use lib.ListN.{getD, length}
 use Rattle.assignment.specs.Bounded.{BelowPrime}
 use Rattle.field.specs.Field.{p}
 
--- the buffer has n terms, each with a wire of the assignment and a residue as its coefficient, and every entry is below the prime
+-- the buffer has n terms, each with a wire of the assignment and a residue, and every entry is below the prime
 pub record Lent (n : ℕ) (terms bytes : List ℕ) : Type 0 where
   pub room : 2 * n ≤ length terms
   pub wires : (t : ℕ) → t < n → 8 * getD terms (2 * t) 0 + 8 ≤ length bytes
-  pub coefficients : (t : ℕ) → t < n → getD terms (2 * t + 1) 0 < p
+  pub residues : (t : ℕ) → t < n → getD terms (2 * t + 1) 0 < p
   pub entries : BelowPrime bytes

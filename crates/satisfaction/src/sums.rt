@@ -22,7 +22,7 @@ fn times(k: u64, x: u64) -> u64
     k * x
 }
 
-// What term t of the buffer adds: its coefficient times the entry of its wire.
+// What term t of the buffer adds: its residue times the entry of its wire.
 pub fn term_value(assignment: &[u8], terms: &[u64], t: usize) -> u64
     requires { ⌜ Lent (t + 1) (now terms) (now assignment) ⌝ }
     ensures { λ r. ⌜ r ≡ (getD (now (terms .entry)) (2 * t + 1) 0 * entry (now (assignment .entry)) (getD (now (terms .entry)) (2 * t) 0)) % p ⌝ }

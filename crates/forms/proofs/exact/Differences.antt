@@ -20,7 +20,8 @@ use Rattle.forms.proofs.exact.Runs.{Agree, Holds, Judged, and-given}
 use Rattle.forms.proofs.exact.Values.{row-letters, value-append, value-less, value-tab, value-weighted}
 use Rattle.forms.proofs.terms.DifferenceTerms.{few, weight-few}
 use Rattle.forms.specs.Positions.{at, one}
-use Rattle.forms.specs.Rows.{Satisfied, _·_, digitTerms, letters, numberTerms, rowOf, signed, value}
+use Rattle.forms.specs.Former.{formerValue}
+use Rattle.forms.specs.Rows.{Satisfied, _·_, digitTerms, letters, numberTerms, rowOf, withSign}
 use Rattle.forms.specs.WordForms.{subtracted}
 use Rattle.forms.specs.WordWires.{numberWires}
 use Rattle.forms.specs.declared.form.Digits.{Digits}
@@ -50,22 +51,22 @@ module _ (a : ℕ → ℕ) where
   digitsOn d = numberOn 4 (d .units) + cond (d .two) (10 * numberOn 4 (d .tens)) 0
 
   value-times : (n k : ℕ) (c : ℕ → ℕ) (w : ℕ → WireNumber)
-      → value a (tab n (λ i. (k * c i) · w i)) ≡ k * value a (tab n (λ i. c i · w i))
-  unfolding value tab
+      → formerValue a (tab n (λ i. (k * c i) · w i)) ≡ k * formerValue a (tab n (λ i. c i · w i))
+  unfolding formerValue tab
   value-times zero k c w = omega arith
   value-times (suc n) k c w =
       value-tab a n (λ i. (k * c i) · w i)
       ∙ ap₂ _+_ (value-times n k c w) (mul-assoc k (c n) (a (w n .0)))
-      ∙ sym (ap (λ (v : ℕ). k * v) (value-tab a n (λ i. c i · w i)) ∙ mul-add k (value a (tab n (λ i. c i · w i))) (c n * a (w n .0)))
+      ∙ sym (ap (λ (v : ℕ). k * v) (value-tab a n (λ i. c i · w i)) ∙ mul-add k (formerValue a (tab n (λ i. c i · w i))) (c n * a (w n .0)))
 
-  value-number : (k n : ℕ) (w : WireNumber) → value a (numberTerms true k n w) ≡ k * numberOn n w
+  value-number : (k n : ℕ) (w : WireNumber) → formerValue a (numberTerms true k n w) ≡ k * numberOn n w
   unfolding numberTerms
   value-number k n w =
       value-times n k (λ i. 2 ^ (n - 1 - i)) (at w)
       ∙ ap (λ (v : ℕ). k * v)
-      (ap (λ (m : ℕ). value a (tab n (λ i. (2 ^ (m - 1 - i)) · at w i))) (sym (add-zero n)) ∙ value-weighted a n 0 (at w) ∙ mul-one (numberOn n w))
+      (ap (λ (m : ℕ). formerValue a (tab n (λ i. (2 ^ (m - 1 - i)) · at w i))) (sym (add-zero n)) ∙ value-weighted a n 0 (at w) ∙ mul-one (numberOn n w))
 
-  value-number-less : (k n : ℕ) (w : WireNumber) → k ≤ 10 → n ≤ 7 → (value a (numberTerms false k n w) + k * numberOn n w) % p ≡ 0
+  value-number-less : (k n : ℕ) (w : WireNumber) → k ≤ 10 → n ≤ 7 → (formerValue a (numberTerms false k n w) + k * numberOn n w) % p ≡ 0
   unfolding numberTerms
   value-number-less k n w small short =
       omega (
@@ -76,21 +77,21 @@ module _ (a : ℕ → ℕ) where
 
   -- digits that are put on, and digits that are taken off
   DigitsValue : Bool → Digits → Type 0
-  DigitsValue true d = value a (digitTerms true d) ≡ digitsOn d
-  DigitsValue false d = (value a (digitTerms false d) + digitsOn d) % p ≡ 0
+  DigitsValue true d = formerValue a (digitTerms true d) ≡ digitsOn d
+  DigitsValue false d = (formerValue a (digitTerms false d) + digitsOn d) % p ≡ 0
 
   value-digits : (plus : Bool) (d : Digits) → DigitsValue plus d
-  unfolding digitTerms value DigitsValue
+  unfolding digitTerms formerValue DigitsValue
   value-digits true d = value-append a (numberTerms true 1 4 (d .units)) (cond (d .two) (numberTerms true 10 4 (d .tens)) []) ∙ more (d .two)
     where
-      more : (b : Bool) → value a (numberTerms true 1 4 (d .units)) + value a (cond b (numberTerms true 10 4 (d .tens)) [])
+      more : (b : Bool) → formerValue a (numberTerms true 1 4 (d .units)) + formerValue a (cond b (numberTerms true 10 4 (d .tens)) [])
           ≡ numberOn 4 (d .units) + cond b (10 * numberOn 4 (d .tens)) 0
       more true = omega (arith, value-number 1 4 (d .units), value-number 10 4 (d .tens))
       more false = omega (arith, value-number 1 4 (d .units))
   value-digits false d = more (d .two)
     where
       more : (b : Bool)
-          → (value a (numberTerms false 1 4 (d .units) ++ cond b (numberTerms false 10 4 (d .tens)) [])
+          → (formerValue a (numberTerms false 1 4 (d .units) ++ cond b (numberTerms false 10 4 (d .tens)) [])
           + (numberOn 4 (d .units) + cond b (10 * numberOn 4 (d .tens)) 0)) % p ≡ 0
       more true =
           omega (
@@ -112,28 +113,28 @@ module _ (a : ℕ → ℕ) where
   module _ (J : Judged a) (d : Digits) (bound n : ℕ) (small : digitsOn d < 2 ^ 32) (low : bound < 2 ^ 32) (short : n ≤ 7) where
     difference-row : (above : Bool) (r : WireNumber) → numberOn n r < 2 ^ 32
         → (Satisfied a (rowOf (Difference d above bound n r)) ↔ (greater above bound d ≡ lesser above bound d + numberOn n r))
-    unfolding letters value DigitsValue
+    unfolding letters formerValue DigitsValue
     difference-row true r hn =
         let bits = numberTerms false 1 n r in
-        let off : (value a bits + 1 * numberOn n r) % p ≡ 0 = value-number-less 1 n r (lit≤ tt) short in
+        let off : (formerValue a bits + 1 * numberOn n r) % p ≡ 0 = value-number-less 1 n r (lit≤ tt) short in
         Iff·trans (row-letters a (Difference d true bound n r))
         (rw (J .one)
-        (balance _ 0 (digitsOn d) (bound + numberOn n r) 0 (1 + (value a bits + numberOn n r) / p) (omega arith) (omega arith)
+        (balance _ 0 (digitsOn d) (bound + numberOn n r) 0 (1 + (formerValue a bits + numberOn n r) / p) (omega arith) (omega arith)
         (omega (
           arith,
-          value-append a (digitTerms true d ++ (signed false bound · one ∷ [])) bits,
-          value-append a (digitTerms true d) (signed false bound · one ∷ []),
-          ap (λ (v : ℕ). signed false bound * v) (J .one),
+          value-append a (digitTerms true d ++ (withSign false bound · one ∷ [])) bits,
+          value-append a (digitTerms true d) (withSign false bound · one ∷ []),
+          ap (λ (v : ℕ). withSign false bound * v) (J .one),
           value-digits true d,
           off,
         ))))
     difference-row false r hn =
         let bits = numberTerms false 1 n r in
-        let digits = value a (digitTerms false d) in
-        let off : (value a bits + 1 * numberOn n r) % p ≡ 0 = value-number-less 1 n r (lit≤ tt) short in
+        let digits = formerValue a (digitTerms false d) in
+        let off : (formerValue a bits + 1 * numberOn n r) % p ≡ 0 = value-number-less 1 n r (lit≤ tt) short in
         Iff·trans (row-letters a (Difference d false bound n r))
         (rw (J .one)
-        (balance _ 0 bound (digitsOn d + numberOn n r) 0 ((digits + digitsOn d) / p + (value a bits + numberOn n r) / p) (omega arith) (omega arith)
+        (balance _ 0 bound (digitsOn d + numberOn n r) 0 ((digits + digitsOn d) / p + (formerValue a bits + numberOn n r) / p) (omega arith) (omega arith)
         (omega (
           arith,
           value-append a (digitTerms false d ++ (bound · one ∷ [])) bits,

@@ -1,6 +1,6 @@
 -- Each row form holds exactly where its result has the intended value, for an assignment whose wire 0 is 1 and whose values
 -- are residues. A product is 0 modulo p where a factor is, since p is prime; all else are numbers far below p, of which a
--- coefficient p - k takes k off.
+-- residue p - k takes k off.
 use mathlib.Core.Logic.{_↔_, _⊎_, Iff·trans, ⊎-elim, ⊎-map, by-cases, inl, inr}
 use mathlib.Core.Path.{_≡_, refl}
 use Prim.Native.Nat.{ℕ, zero, suc, _+_, _-_, _*_, _/_, _%_, _<_}
@@ -11,7 +11,8 @@ use Rattle.field.proofs.Prime.{no-zero-divisors}
 use Rattle.field.specs.Field.{p}
 use Rattle.forms.proofs.exact.Runs.{Judged}
 use Rattle.forms.proofs.exact.Values.{row-letters}
-use Rattle.forms.specs.Rows.{Satisfied, letters, rowOf, value}
+use Rattle.forms.specs.Former.{formerValue}
+use Rattle.forms.specs.Rows.{Satisfied, letters, rowOf}
 use Rattle.forms.specs.declared.form.Form.the-variants.{Fixed, Bit, XorOfTwo, XorOfThree, Majority, Choice, Equal}
 use Rattle.refusal.specs.declared.numbers.WireNumber.{WireNumber}
 
@@ -46,12 +47,12 @@ majority-of-three s r = (
 
 module _ (a : ℕ → ℕ) (J : Judged a) where
   pub fixed-row : (w b : ℕ) → b < 2 → (Satisfied a (rowOf (Fixed (record { 0 = w }) b)) ↔ (a w ≡ b))
-  unfolding letters value
+  unfolding letters formerValue
   fixed-row w b h =
       Iff·trans (row-letters a (Fixed (record { 0 = w }) b)) (rw (J .one) (omega (arith, J .below w)))
 
   pub bit-row : (w : ℕ) → (Satisfied a (rowOf (Bit (record { 0 = w }))) ↔ (a w < 2))
-  unfolding letters value
+  unfolding letters formerValue
   bit-row w =
       Iff·trans (row-letters a (Bit (record { 0 = w })))
       (Iff·trans
@@ -61,14 +62,14 @@ module _ (a : ℕ → ℕ) (J : Judged a) where
       (⊎-elim (λ e. omega arith) (λ e. omega arith), bit-values (a w)))
 
   pub equal-row : (x y : ℕ) → (Satisfied a (rowOf (Equal (record { 0 = x }) (record { 0 = y }))) ↔ (a x ≡ a y))
-  unfolding letters value
+  unfolding letters formerValue
   equal-row x y =
       Iff·trans (row-letters a (Equal (record { 0 = x }) (record { 0 = y })))
       (rw (J .one) (omega (arith, J .below x, J .below y)))
 
   module _ (x y r : WireNumber) (hx : a (x .0) < 2) (hy : a (y .0) < 2) where
     pub xor-two-row : Satisfied a (rowOf (XorOfTwo x y r)) ↔ (a (r .0) ≡ (a (x .0) + a (y .0)) % 2)
-    unfolding letters value
+    unfolding letters formerValue
     xor-two-row =
         Iff·trans (row-letters a (XorOfTwo x y r))
         (balance _ _ (a (r .0)) ((a (x .0) + a (y .0)) % 2) (a (r .0)) 0 (J .below (r .0)) (omega arith)
@@ -77,7 +78,7 @@ module _ (a : ℕ → ℕ) (J : Judged a) where
     module _ (z : WireNumber) (hz : a (z .0) < 2) where
       pub xor-three-row : a (r .0) < 2
           → (Satisfied a (rowOf (XorOfThree x y z r)) ↔ (a (r .0) ≡ (a (x .0) + a (y .0) + a (z .0)) % 2))
-      unfolding letters value
+      unfolding letters formerValue
       xor-three-row hr =
           let s : ℕ = a (x .0) + a (y .0) + a (z .0) in
           Iff·trans (row-letters a (XorOfThree x y z r))
@@ -89,7 +90,7 @@ module _ (a : ℕ → ℕ) (J : Judged a) where
 
       pub majority-row : a (r .0) < 2
           → (Satisfied a (rowOf (Majority x y z r)) ↔ (a (r .0) ≡ (a (x .0) + a (y .0) + a (z .0)) / 2))
-      unfolding letters value
+      unfolding letters formerValue
       majority-row hr =
           let s : ℕ = a (x .0) + a (y .0) + a (z .0) in
           Iff·trans (row-letters a (Majority x y z r))
@@ -100,7 +101,7 @@ module _ (a : ℕ → ℕ) (J : Judged a) where
           (majority-of-three s (a (r .0))))
 
       pub choice-row : Satisfied a (rowOf (Choice x y z r)) ↔ (a (r .0) ≡ a (x .0) * a (y .0) + (1 - a (x .0)) * a (z .0))
-      unfolding letters value
+      unfolding letters formerValue
       choice-row =
           let below : a (r .0) < p = J .below (r .0) in
           Iff·trans (row-letters a (Choice x y z r))

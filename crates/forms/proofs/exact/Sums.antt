@@ -17,7 +17,8 @@ use Rattle.forms.proofs.exact.Forms.{balance}
 use Rattle.forms.proofs.exact.Runs.{Judged, Reads}
 use Rattle.forms.proofs.exact.Values.{row-letters, value-append, value-less, value-weighted}
 use Rattle.forms.specs.Positions.{at, one, wireAt}
-use Rattle.forms.specs.Rows.{Satisfied, _·_, addendTerms, less, letters, rowOf, taken, value, weighted}
+use Rattle.forms.specs.Former.{formerValue}
+use Rattle.forms.specs.Rows.{Satisfied, _·_, addendTerms, less, letters, rowOf, taken, weighted}
 use Rattle.forms.specs.WordWires.{carryWires, sumWires, wordWires}
 use Rattle.forms.specs.declared.form.Addends.{Addends}
 use Rattle.forms.specs.declared.form.Form.the-variants.{Sum}
@@ -75,19 +76,19 @@ sum-bits s b h = (
 )
 
 module _ (a : ℕ → ℕ) where
-  value-word : (x : WordPosition) (X : ℕ) → X < 2 ^ 32 → Reads a x X → value a (weighted x) ≡ X
+  value-word : (x : WordPosition) (X : ℕ) → X < 2 ^ 32 → Reads a x X → formerValue a (weighted x) ≡ X
   unfolding weighted
   value-word x X h reads =
       value-weighted a 32 0 (wireAt x) ∙ mul-one (number 32 (λ i. a (wireAt x i .0)))
       ∙ number-cong 32 (λ i. a (wireAt x i .0)) (λ i. bit i X) reads ∙ number-bits X h
 
   pub value-words : (x y : WordPosition) (X Y : ℕ) → X < 2 ^ 32 → Y < 2 ^ 32 → Reads a x X → Reads a y Y
-      → value a (weighted x ++ weighted y) ≡ X + Y
+      → formerValue a (weighted x ++ weighted y) ≡ X + Y
   value-words x y X Y hx hy rx ry =
       value-append a (weighted x) (weighted y) ∙ ap₂ _+_ (value-word x X hx rx) (value-word y Y hy ry)
 
-  value-taken : (r : WireNumber) → (value a (taken r) + written (λ i. a (r .0 + i))) % p ≡ 0
-  unfolding taken value number
+  value-taken : (r : WireNumber) → (formerValue a (taken r) + written (λ i. a (r .0 + i))) % p ≡ 0
+  unfolding taken formerValue number
   value-taken r =
       let weight : ℕ → ℕ = λ i. 2 ^ (31 - i) in
       omega (
@@ -97,15 +98,15 @@ module _ (a : ℕ → ℕ) where
         value-weighted a 32 0 (at r),
       )
 
-  pub sum-row : (J : Judged a) (s : Addends) (c v : ℕ) (r : WireNumber) → value a (addendTerms s) ≡ v → v + c < 2 ^ 34
+  pub sum-row : (J : Judged a) (s : Addends) (c v : ℕ) (r : WireNumber) → formerValue a (addendTerms s) ≡ v → v + c < 2 ^ 34
       → Each 34 (λ i. a (r .0 + i) < 2) → (Satisfied a (rowOf (Sum s c r)) ↔ (v + c ≡ written (λ i. a (r .0 + i))))
-  unfolding letters value
+  unfolding letters formerValue
   sum-row J s c v r e hv bits =
       let w : ℕ = written (λ i. a (r .0 + i)) in
       let hw : w < 2 ^ 34 = written-lt (λ i. a (r .0 + i)) bits in
       Iff·trans (row-letters a (Sum s c r))
       (rw (J .one)
-      (balance _ 0 (v + c) w 0 ((value a (taken r) + w) / p) (omega arith) (omega arith)
+      (balance _ 0 (v + c) w 0 ((formerValue a (taken r) + w) / p) (omega arith) (omega arith)
       (omega (
         arith,
         value-append a (addendTerms s ++ (c · one ∷ [])) (taken r),

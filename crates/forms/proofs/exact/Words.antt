@@ -16,7 +16,8 @@ use Rattle.forms.proofs.exact.Runs.{Agree, Holds, Judged, Reads, and-gi
 use Rattle.forms.proofs.exact.Sums.{sum-bits, sum-row, value-words}
 use Rattle.forms.proofs.exact.Values.{value-append}
 use Rattle.forms.specs.Positions.{standing, rotatedBy, wireAt}
-use Rattle.forms.specs.Rows.{Satisfied, addendTerms, rowOf, value, weighted}
+use Rattle.forms.specs.Former.{formerValue}
+use Rattle.forms.specs.Rows.{Satisfied, addendTerms, rowOf, weighted}
 use Rattle.forms.specs.WordForms.{choiceOf, four, paired, summed, two, xorOfTwo}
 use Rattle.forms.specs.WordWires.{carryWires, sumWires, wordWires}
 use Rattle.forms.specs.declared.form.Addends.{Addends}
@@ -85,7 +86,7 @@ module _ (a : ℕ → ℕ) (J : Judged a) where
       e)
 
   -- a sum's rows
-  sum-rows : (s : Addends) (c v r : ℕ) → value a (addendTerms s) ≡ v → v + c < 2 ^ 34
+  sum-rows : (s : Addends) (c v r : ℕ) → formerValue a (addendTerms s) ≡ v → v + c < 2 ^ 34
       → (Holds a 35 (summed s c r) ↔ Agree a r 34 (sumWires (v + c)))
   unfolding summed beside
   sum-rows s c v r e h =
@@ -108,7 +109,7 @@ module _ (a : ℕ → ℕ) (J : Judged a) where
         (λ i l. rw (rx i l, ry i l) (bit-xor i X Y))
 
     pub sum-two : (c r : ℕ) → c < 2 ^ 32 → (Holds a 35 (summed (two x y) c r) ↔ Agree a r 34 (sumWires (X + Y + c)))
-    unfolding addendTerms value
+    unfolding addendTerms formerValue
     sum-two c r hc =
         sum-rows (two x y) c (X + Y) r
         (omega (arith, value-append a (weighted x ++ weighted y) [], value-words a x y X Y hX hY rx ry)) (omega arith)
@@ -141,7 +142,7 @@ module _ (a : ℕ → ℕ) (J : Judged a) where
 
       module _ (t : WordPosition) (T : ℕ) (hT : T < 2 ^ 32) (rt : Reads a t T) where
         pub sum-four : (r : ℕ) → (Holds a 35 (summed (four x y z t) 0 r) ↔ Agree a r 34 (sumWires (X + Y + Z + T)))
-        unfolding addendTerms value
+        unfolding addendTerms formerValue
         sum-four r =
             rw (add-zero (X + Y + Z + T)) at
             (sum-rows (four x y z t) 0 (X + Y + Z + T) r

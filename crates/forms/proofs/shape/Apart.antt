@@ -1,5 +1,5 @@
 -- Forms whose wires are below m, apart from each other and from wire 0. Then the terms of each part of a form's letters have
--- different wires below m and coefficients below p, and all parts have at most 163 terms: 162 and 1 of a sum.
+-- different wires below m and residues below p, and all parts have at most 163 terms: 162 and 1 of a sum.
 use mathlib.Core.Bool.{not}
 use mathlib.Core.List.{List, [], _∷_}
 use mathlib.Core.Path.{_≡_}
@@ -10,7 +10,7 @@ use Rattle.forms.proofs.shape.DifferenceApart.{ApartDifference, differe
 use Rattle.forms.proofs.shape.Rises.{Part, nonzero-length}
 use Rattle.forms.proofs.shape.SumApart.{ApartSum, sum-few, sum-part}
 use Rattle.forms.proofs.terms.SumTerms.{addendWords}
-use Rattle.forms.specs.Rows.{Row, letters, signed, terms}
+use Rattle.forms.specs.Rows.{Row, letters, withSign, terms}
 use Rattle.forms.specs.Shape.{All, Pairwise, mostTerms}
 use Rattle.forms.specs.Terms.{termCount, unsorted}
 use Rattle.forms.specs.declared.form.Form.the-variants.{Fixed, Bit, XorOfTwo, XorOfThree, Majority, Choice, Sum, Equal, Difference}
@@ -69,4 +69,4 @@ letters-few m (Choice x y z r) h = few (Choice x y z r) (omega arith)
 letters-few m (Sum s c r) h = sum-few m s c r h
 letters-few m (Equal x y) h = few (Equal x y) (omega arith)
 letters-few m (Difference d above bound n r) h =
-    few (Difference d above bound n r) (omega (arith, difference-few above d (signed (not above) bound) n r (h .few)))
+    few (Difference d above bound n r) (omega (arith, difference-few above d (withSign (not above) bound) n r (h .few)))

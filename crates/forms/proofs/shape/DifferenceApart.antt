@@ -12,9 +12,9 @@ use Rattle.forms.proofs.shape.All.{all-append, all-tab, pairwise-tab}
 use Rattle.forms.proofs.shape.Clear.{Clear}
 use Rattle.forms.proofs.shape.Rises.{Part}
 use Rattle.forms.proofs.shape.TermRuns.{Off, On, Run, constant-run, run-before, run-off, run-part}
-use Rattle.forms.proofs.terms.DifferenceTerms.{number-length, number-range, signed-range}
+use Rattle.forms.proofs.terms.DifferenceTerms.{number-length, number-range, with-sign-range}
 use Rattle.forms.specs.Positions.{one}
-use Rattle.forms.specs.Rows.{_·_, digitTerms, numberTerms, signed}
+use Rattle.forms.specs.Rows.{_·_, digitTerms, numberTerms, withSign}
 use Rattle.forms.specs.Shape.{All}
 use Rattle.forms.specs.declared.form.Digits.{Digits}
 use Rattle.forms.specs.declared.form.Term.{Term}
@@ -35,12 +35,12 @@ number-run plus k n w some small short =
     record {
       on = all-tab (On (w .0) n) n _ (λ i h. omega arith);
       distinct = pairwise-tab _ n _ (λ i j h l. omega arith);
-      coefficients = all-tab (λ (t : Term). t .coefficient < p) n _ (λ i h. number-range plus k n w some small short i .1);
+      residues = all-tab (λ (t : Term). t .residue < p) n _ (λ i h. number-range plus k n w some small short i .1);
     }
 
 module _ (m : ℕ) (d : Digits) (above : Bool) (bound n : ℕ) (r : WireNumber) (h : ApartDifference m d bound n (r .0)) where
   abbrev constant : List Term
-  constant = signed (not above) bound · one ∷ []
+  constant = withSign (not above) bound · one ∷ []
 
   abbrev bits : List Term
   bits = numberTerms false 1 n r
@@ -50,11 +50,11 @@ module _ (m : ℕ) (d : Digits) (above : Bool) (bound n : ℕ) (r : WireNumber) 
 
   -- what follows the digits
   abbrev rest : List Term
-  rest = signed (not above) bound · one ∷ bits
+  rest = withSign (not above) bound · one ∷ bits
 
   rest-part : Part m rest
   rest-part =
-      run-before 0 1 constant (constant-run _ (signed-range (not above) bound (h .least) (omega (arith, h .most)) .1)) m bits
+      run-before 0 1 constant (constant-run _ (with-sign-range (not above) bound (h .least) (omega (arith, h .most)) .1)) m bits
       (omega (arith, h .result)) (run-part (r .0) n bits bits-run m (h .result .1))
       (run-off (r .0) n bits bits-run 0 1 (omega (arith, h .result)))
 
@@ -62,7 +62,7 @@ module _ (m : ℕ) (d : Digits) (above : Bool) (bound n : ℕ) (r : WireNumber) 
   digit-run : (k : ℕ) (w : WireNumber) → 1 ≤ k → k ≤ 10 → Run (w .0) 4 (numberTerms above k 4 w)
   digit-run k w some small = number-run above k 4 w some small (lit≤ tt)
 
-  rest-off : (w : ℕ) → 1 ≤ w → Clear w 4 (r .0) n → Off w 4 (signed (not above) bound · one) × All (Off w 4) bits
+  rest-off : (w : ℕ) → 1 ≤ w → Clear w 4 (r .0) n → Off w 4 (withSign (not above) bound · one) × All (Off w 4) bits
   rest-off w low clear = (omega arith, run-off (r .0) n bits bits-run w 4 clear)
 
   digits-part : (b : Bool) → d .two ≡ b

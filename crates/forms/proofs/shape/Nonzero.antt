@@ -7,18 +7,18 @@ use lib.Dec.{eqb}
 use Rattle.forms.specs.Rows.{nonzero}
 use Rattle.forms.specs.declared.form.Term.{Term}
 
-pub drops : (t : Term) (ts : List Term) → t .coefficient ≡ 0 → nonzero (t ∷ ts) ≡ nonzero ts
+pub drops : (t : Term) (ts : List Term) → t .residue ≡ 0 → nonzero (t ∷ ts) ≡ nonzero ts
 unfolding nonzero
-drops t ts e = rw (eq-eqb (t .coefficient) 0 e)
+drops t ts e = rw (eq-eqb (t .residue) 0 e)
 
-pub keeps : (t : Term) (ts : List Term) → (t .coefficient ≡ 0 → ⊥) → nonzero (t ∷ ts) ≡ t ∷ nonzero ts
+pub keeps : (t : Term) (ts : List Term) → (t .residue ≡ 0 → ⊥) → nonzero (t ∷ ts) ≡ t ∷ nonzero ts
 unfolding nonzero
-keeps t ts e = rw (ne-eqb (t .coefficient) 0 e)
+keeps t ts e = rw (ne-eqb (t .residue) 0 e)
 
 pub nonzero-append : (xs ys : List Term) → nonzero (xs ++ ys) ≡ nonzero xs ++ nonzero ys
 unfolding nonzero
 nonzero-append [] ys = refl
-nonzero-append (x ∷ xs) ys = go (eqb (x .coefficient) 0) (nonzero-append xs ys)
+nonzero-append (x ∷ xs) ys = go (eqb (x .residue) 0) (nonzero-append xs ys)
   where
     go : (b : Bool) → nonzero (xs ++ ys) ≡ nonzero xs ++ nonzero ys
         → cond b (nonzero (xs ++ ys)) (x ∷ nonzero (xs ++ ys)) ≡ cond b (nonzero xs) (x ∷ nonzero xs) ++ nonzero ys

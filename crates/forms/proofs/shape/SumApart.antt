@@ -28,8 +28,8 @@ word-run x =
     record {
       on = all-tab (On (x .first .0) 32) 32 _ (λ i h. omega arith);
       distinct = pairwise-tab _ 32 _ (λ i j h k. omega arith);
-      coefficients =
-          all-tab (λ (t : Term). t .coefficient < p) 32 _
+      residues =
+          all-tab (λ (t : Term). t .residue < p) 32 _
           (λ i h.
           let small : 31 - i ≤ 31 = omega arith in
           omega (arith, pow-mono small));
@@ -43,9 +43,9 @@ taken-run r =
       distinct =
           pairwise-append _ (tab 32 _) _ (pairwise-tab _ 32 _ (λ i j h k. omega arith)) (omega arith)
           (all-tab _ 32 _ (λ i h. omega arith));
-      coefficients =
-          all-append (λ (t : Term). t .coefficient < p) (tab 32 _) _
-          (all-tab (λ (t : Term). t .coefficient < p) 32 _ (λ i h. omega (arith, pow-pos (31 - i))))
+      residues =
+          all-append (λ (t : Term). t .residue < p) (tab 32 _) _
+          (all-tab (λ (t : Term). t .residue < p) 32 _ (λ i h. omega (arith, pow-pos (31 - i))))
           (omega arith);
     }
 

@@ -24,7 +24,7 @@ Off a n t = a ≤ t .wire .0 → a + n ≤ t .wire .0
 pub record Run (a n : ℕ) (ts : List Term) : Type 0 where
   pub on : All (On a n) ts
   pub distinct : Distinct ts
-  pub coefficients : All (λ t. t .coefficient < p) ts
+  pub residues : All (λ t. t .residue < p) ts
 
 module _ (a n : ℕ) (ts : List Term) (r : Run a n ts) where
   pub run-off : (b m : ℕ) → Clear b m a n → All (Off b m) ts
@@ -35,7 +35,7 @@ module _ (a n : ℕ) (ts : List Term) (r : Run a n ts) where
       record {
         distinct = r .distinct;
         wires = all-map (On a n) (λ t. t .wire .0 < m) (λ t k. omega arith) ts (r .on);
-        coefficients = r .coefficients;
+        residues = r .residues;
       }
 
   -- a run before terms whose wires are none of its own
@@ -47,8 +47,8 @@ module _ (a n : ℕ) (ts : List Term) (r : Run a n ts) where
             (all-map (On a n) (λ t. All (λ u. t .wire .0 ≡ u .wire .0 → ⊥) us)
             (λ t k. all-map (Off a n) (λ u. t .wire .0 ≡ u .wire .0 → ⊥) (λ u l e. omega (arith, l (omega arith))) us off) ts (r .on));
         wires = all-append (λ t. t .wire .0 < m) ts us (run-part m h .wires) (q .wires);
-        coefficients = all-append (λ t. t .coefficient < p) ts us (r .coefficients) (q .coefficients);
+        residues = all-append (λ t. t .residue < p) ts us (r .residues) (q .residues);
       }
 
 pub constant-run : (c : ℕ) → c < p → Run 0 1 (c · one ∷ [])
-constant-run c h = record { on = omega arith; distinct = (tt, tt); coefficients = omega arith }
+constant-run c h = record { on = omega arith; distinct = (tt, tt); residues = omega arith }

@@ -7,11 +7,12 @@ use native.Mathlib.Numerals.{add-one}
 use native.Mathlib.Omega.{arith}
 use lib.ListN.{drop, getD, length, length-append, take}
 use lib.Seq.{length-take-le, split-at, take-all, take-suc}
-use Rattle.encoding.proofs.Bytes.{length-least-first}
+use Rattle.encoding.proofs.Bytes.{length-least-first, length-twos-complement}
 use Rattle.encoding.proofs.Written.{length-written, written-as, written-none, written-then}
-use Rattle.encoding.specs.Bytes.{leastFirst}
+use Rattle.encoding.specs.Bytes.{leastFirst, twosComplement}
 use Rattle.encoding.specs.Written.{Written}
-use Rattle.forms.proofs.terms.Flat.{coefficient-at, wire-at}
+use Rattle.forms.proofs.terms.Flat.{residue-at, wire-at}
+use Rattle.forms.specs.Coefficients.{coefficient}
 use Rattle.forms.specs.Positions.{one}
 use Rattle.forms.specs.Rows.{_·_}
 use Rattle.forms.specs.TermBytes.{termBytes, termsBytes}
@@ -21,12 +22,12 @@ use Rattle.forms.specs.declared.form.Term.{Term}
 term-length : (t : Term) → length (termBytes t) ≡ 12
 unfolding termBytes
 term-length t =
-    length-append (leastFirst 4 (t .wire .0)) (leastFirst 8 (t .coefficient))
-    ∙ ap₂ (λ m n. m + n) (length-least-first 4 (t .wire .0)) (length-least-first 8 (t .coefficient))
+    length-append (leastFirst 4 (t .wire .0)) (twosComplement 8 (coefficient t))
+    ∙ ap₂ (λ m n. m + n) (length-least-first 4 (t .wire .0)) (length-twos-complement 8 (coefficient t))
 
 -- a term's coefficient goes behind its wire
 pub next-number : {at : ℕ} {l l′ l″ : List ℕ} (t : Term) → Written at (leastFirst 4 (t .wire .0)) l l′
-    → Written (at + 4) (leastFirst 8 (t .coefficient)) l′ l″ → Written at (termBytes t) l l″
+    → Written (at + 4) (twosComplement 8 (coefficient t)) l′ l″ → Written at (termBytes t) l l″
 unfolding termBytes
 next-number {at} t h h′ = written-then (at + 4) (ap (λ k. at + k) (sym (length-least-first 4 (t .wire .0)))) h h′
 
@@ -65,8 +66,8 @@ module _ {terms : List ℕ} {n : ℕ} {l m : List ℕ} {i : ℕ} (h : TermsWritt
           let here : length (take i ts) ≡ i = length-take-le i ts (omega arith) in
           let apart = f ∙ ap (λ x. flat x ++ rest) (split-at ts i (0 · one) below) in
           let wire = ap (λ x. getD x (2 * i) 0) apart ∙ wire-at (take i ts) rest t (drop (suc i) ts) i here in
-          let coefficient = ap (λ x. getD x (2 * i + 1) 0) apart ∙ coefficient-at (take i ts) rest t (drop (suc i) ts) i here in
-          let same = ap₂ (λ w k. termBytes (k · record { 0 = w })) wire coefficient in
+          let residue = ap (λ x. getD x (2 * i + 1) 0) apart ∙ residue-at (take i ts) rest t (drop (suc i) ts) i here in
+          let same = ap₂ (λ w k. termBytes (k · record { 0 = w })) wire residue in
           let end : 12 * i ≡ 0 + length (termsBytes (take i ts)) = omega (arith, length-terms (take i ts)) in
           rw (add-one i, take-suc ts i (0 · one) below, terms-snoc (take i ts) t)
           (written-then (12 * i) end (h .bytes ts rest long f) (written-as same e))

@@ -17,7 +17,7 @@ use Rattle.forms.proofs.shape.Nonzero.{keeps}
 use Rattle.forms.proofs.terms.SumTerms.{nonzero-both, nonzero-tab}
 use Rattle.forms.proofs.terms.WrittenTerms.{terms-then}
 use Rattle.forms.specs.Positions.{at, one}
-use Rattle.forms.specs.Rows.{_·_, digitTerms, letters, nonzero, numberTerms, signed, terms}
+use Rattle.forms.specs.Rows.{_·_, digitTerms, letters, nonzero, numberTerms, withSign, terms}
 use Rattle.forms.specs.Terms.{Filled, FitDifference, flat, unsorted}
 use Rattle.forms.specs.declared.form.Digits.{Digits}
 use Rattle.forms.specs.declared.form.Form.the-variants.{Difference}
@@ -26,7 +26,7 @@ use Rattle.refusal.specs.declared.numbers.WireNumber.{WireNumber}
 
 -- the term of bit i
 abbrev pub numberTerm : Bool → ℕ → ℕ → WireNumber → ℕ → Term
-numberTerm plus k n w i = signed plus (k * 2 ^ (n - 1 - i)) · at w i
+numberTerm plus k n w i = withSign plus (k * 2 ^ (n - 1 - i)) · at w i
 
 -- Weights.
 
@@ -43,10 +43,10 @@ few k x h l = mul-le-mul h l
 pub weight-few : (n i : ℕ) → n ≤ 7 → 2 ^ (n - 1 - i) ≤ 64
 weight-few n i h = pow-mono {j = 6} (omega arith)
 
--- a term that is put on or taken off is not zero, and its coefficient is a residue
-pub signed-range : (plus : Bool) (k : ℕ) → 1 ≤ k → k < p → (1 ≤ signed plus k) × (signed plus k < p)
-signed-range true k h l = (h, l)
-signed-range false k h l = (omega arith, omega arith)
+-- a term that is put on or taken off is not zero, and is below p
+pub with-sign-range : (plus : Bool) (k : ℕ) → 1 ≤ k → k < p → (1 ≤ withSign plus k) × (withSign plus k < p)
+with-sign-range true k h l = (h, l)
+with-sign-range false k h l = (omega arith, omega arith)
 
 -- How many terms there are.
 
@@ -57,9 +57,9 @@ number-length plus k n w = length-tab n (numberTerm plus k n w)
 -- None is zero.
 
 module _ (plus : Bool) (k n : ℕ) (w : WireNumber) (some : 1 ≤ k) (small : k ≤ 10) (short : n ≤ 7) where
-  pub number-range : (i : ℕ) → (1 ≤ numberTerm plus k n w i .coefficient) × (numberTerm plus k n w i .coefficient < p)
+  pub number-range : (i : ℕ) → (1 ≤ numberTerm plus k n w i .residue) × (numberTerm plus k n w i .residue < p)
   number-range i =
-      signed-range plus (k * 2 ^ (n - 1 - i)) (mul-le-mul some (pow-pos (n - 1 - i)))
+      with-sign-range plus (k * 2 ^ (n - 1 - i)) (mul-le-mul some (pow-pos (n - 1 - i)))
       (omega (arith, few k (2 ^ (n - 1 - i)) small (weight-few n i short)))
 
   nonzero-number : nonzero (numberTerms plus k n w) ≡ numberTerms plus k n w
@@ -99,7 +99,7 @@ module _ (plus : Bool) (d : Digits) where
 
 module _ (d : Digits) (above : Bool) (bound n : ℕ) (r : WireNumber) (fit : FitDifference d bound n r) where
   abbrev constant : List Term
-  constant = signed (not above) bound · one ∷ []
+  constant = withSign (not above) bound · one ∷ []
 
   abbrev head : List Term
   head = digitTerms above d ++ constant
@@ -110,8 +110,8 @@ module _ (d : Digits) (above : Bool) (bound n : ℕ) (r : WireNumber) (fit : Fit
   nonzero-constant : nonzero constant ≡ constant
   unfolding nonzero
   nonzero-constant =
-      keeps (signed (not above) bound · one) []
-      (λ e. omega (arith, signed-range (not above) bound (fit .least) (omega (arith, fit .most)) .0))
+      keeps (withSign (not above) bound · one) []
+      (λ e. omega (arith, with-sign-range (not above) bound (fit .least) (omega (arith, fit .most)) .0))
 
   nonzero-difference : nonzero (head ++ bits) ≡ head ++ bits
   nonzero-difference =

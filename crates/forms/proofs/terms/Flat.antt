@@ -12,7 +12,7 @@ use Rattle.forms.specs.declared.form.Term.{Term}
 pub flat-append : (xs ys : List Term) → flat (xs ++ ys) ≡ flat xs ++ flat ys
 unfolding flat
 flat-append [] ys = refl
-flat-append (x ∷ xs) ys = ap (λ l. x .wire .0 ∷ x .coefficient ∷ l) (flat-append xs ys)
+flat-append (x ∷ xs) ys = ap (λ l. x .wire .0 ∷ x .residue ∷ l) (flat-append xs ys)
 
 pub flat-length : (ts : List Term) → length (flat ts) ≡ 2 * length ts
 unfolding flat
@@ -24,7 +24,7 @@ pub over : (xs ys : List Term) (rest : List ℕ) → flat (xs ++ ys) ++ rest ≡
 over xs ys rest = ap (λ l. l ++ rest) (flat-append xs ys) ∙ append-assoc (flat xs) (flat ys) rest
 
 module _ (xs : List Term) (rest : List ℕ) where
-  split-at-wire : (t : Term) (us : List Term) → flat (xs ++ t ∷ us) ++ rest ≡ flat xs ++ (t .wire .0 ∷ t .coefficient ∷ (flat us ++ rest))
+  split-at-wire : (t : Term) (us : List Term) → flat (xs ++ t ∷ us) ++ rest ≡ flat xs ++ (t .wire .0 ∷ t .residue ∷ (flat us ++ rest))
   unfolding flat
   split-at-wire t us = over xs (t ∷ us) rest
 
@@ -33,28 +33,28 @@ module _ (xs : List Term) (rest : List ℕ) where
     wire-place : length (flat xs) ≡ 2 * i
     wire-place = omega (arith, flat-length xs)
 
-    coefficient-place : (w : ℕ) → length (flat xs ++ (w ∷ [])) ≡ 2 * i + 1
-    coefficient-place w = omega (arith, length-append (flat xs) (w ∷ []), wire-place)
+    residue-place : (w : ℕ) → length (flat xs ++ (w ∷ [])) ≡ 2 * i + 1
+    residue-place w = omega (arith, length-append (flat xs) (w ∷ []), wire-place)
 
     pub wire-at : getD (flat (xs ++ t ∷ us) ++ rest) (2 * i) 0 ≡ t .wire .0
     wire-at =
-        rw (split-at-wire t us) (getD-at (flat xs) (t .wire .0) (t .coefficient ∷ (flat us ++ rest)) 0 (2 * i) wire-place)
+        rw (split-at-wire t us) (getD-at (flat xs) (t .wire .0) (t .residue ∷ (flat us ++ rest)) 0 (2 * i) wire-place)
 
-    pub coefficient-at : getD (flat (xs ++ t ∷ us) ++ rest) (2 * i + 1) 0 ≡ t .coefficient
-    coefficient-at =
-        rw (split-at-wire t us, ← append-assoc (flat xs) (t .wire .0 ∷ []) (t .coefficient ∷ (flat us ++ rest)))
-        (getD-at (flat xs ++ (t .wire .0 ∷ [])) (t .coefficient) (flat us ++ rest) 0 (2 * i + 1) (coefficient-place (t .wire .0)))
+    pub residue-at : getD (flat (xs ++ t ∷ us) ++ rest) (2 * i + 1) 0 ≡ t .residue
+    residue-at =
+        rw (split-at-wire t us, ← append-assoc (flat xs) (t .wire .0 ∷ []) (t .residue ∷ (flat us ++ rest)))
+        (getD-at (flat xs ++ (t .wire .0 ∷ [])) (t .residue) (flat us ++ rest) 0 (2 * i + 1) (residue-place (t .wire .0)))
 
     -- another term stored there
     pub term-set : (s : Term)
-        → set (set (flat (xs ++ t ∷ us) ++ rest) (2 * i) (s .wire .0)) (2 * i + 1) (s .coefficient) ≡ flat (xs ++ s ∷ us) ++ rest
+        → set (set (flat (xs ++ t ∷ us) ++ rest) (2 * i) (s .wire .0)) (2 * i + 1) (s .residue) ≡ flat (xs ++ s ∷ us) ++ rest
     term-set s =
         let w = s .wire .0 in
-        let k = s .coefficient in
-        let old = t .coefficient ∷ (flat us ++ rest) in
+        let k = s .residue in
+        let old = t .residue ∷ (flat us ++ rest) in
         ap (λ l. set (set l (2 * i) w) (2 * i + 1) k) (split-at-wire t us)
         ∙ ap (λ l. set l (2 * i + 1) k)
         (set-at (flat xs) (t .wire .0) old w (2 * i) wire-place ∙ sym (append-assoc (flat xs) (w ∷ []) old))
-        ∙ set-at (flat xs ++ (w ∷ [])) (t .coefficient) (flat us ++ rest) k (2 * i + 1) (coefficient-place w)
+        ∙ set-at (flat xs ++ (w ∷ [])) (t .residue) (flat us ++ rest) k (2 * i + 1) (residue-place w)
         ∙ append-assoc (flat xs) (w ∷ []) (k ∷ (flat us ++ rest))
         ∙ sym (split-at-wire s us)

@@ -10,18 +10,18 @@ use Rattle.forms.specs.Terms.{flat}
 use Rattle.forms.specs.declared.form.Term.{Term}
 
 all-flat : (P : Term → Type 0) (ts : List Term) → All P ts → (i : ℕ) → i < length ts
-    → P (record { wire = record { 0 = getD (flat ts) (2 * i) 0 }; coefficient = getD (flat ts) (2 * i + 1) 0 })
+    → P (record { wire = record { 0 = getD (flat ts) (2 * i) 0 }; residue = getD (flat ts) (2 * i + 1) 0 })
 unfolding flat
 all-flat P [] a i h = absurd (omega arith)
 all-flat P (t ∷ ts) a zero h = a .0
 all-flat P (t ∷ ts) a (suc i) h =
     let wire : 2 * suc i ≡ suc (suc (2 * i)) = omega arith in
-    let coefficient : 2 * suc i + 1 ≡ suc (suc (2 * i + 1)) = omega arith in
-    rw (coefficient, wire) (all-flat P ts (a .1) i (omega arith))
+    let residue : 2 * suc i + 1 ≡ suc (suc (2 * i + 1)) = omega arith in
+    rw (residue, wire) (all-flat P ts (a .1) i (omega arith))
 
 -- .. and of each pair of numbers at the front of a buffer that begins with them
 pub all-front : (P : Term → Type 0) (ts : List Term) → All P ts → (l rest : List ℕ) → l ≡ flat ts ++ rest → (i : ℕ) → i < length ts
-    → P (record { wire = record { 0 = getD l (2 * i) 0 }; coefficient = getD l (2 * i + 1) 0 })
+    → P (record { wire = record { 0 = getD l (2 * i) 0 }; residue = getD l (2 * i + 1) 0 })
 all-front P ts a l rest e i h =
     let before : (k : ℕ) → k < 2 * length ts → getD l k 0 ≡ getD (flat ts) k 0 =
     λ k below. ap (λ x. getD x k 0) e ∙ List·getD-append (flat ts) rest 0 k (omega (arith, flat-length ts)) in

@@ -63,7 +63,7 @@ addends-length s = ap length (addends-weighted s) ∙ words-length (addendWords 
 pub nonzero-both : (xs ys : List Term) → nonzero xs ≡ xs → nonzero ys ≡ ys → nonzero (xs ++ ys) ≡ xs ++ ys
 nonzero-both xs ys p q = nonzero-append xs ys ∙ ap₂ (λ l m. l ++ m) p q
 
-pub nonzero-tab : (n : ℕ) (f : ℕ → Term) → ((i : ℕ) → f i .coefficient ≡ 0 → ⊥) → nonzero (tab n f) ≡ tab n f
+pub nonzero-tab : (n : ℕ) (f : ℕ → Term) → ((i : ℕ) → f i .residue ≡ 0 → ⊥) → nonzero (tab n f) ≡ tab n f
 unfolding tab nonzero
 nonzero-tab zero f h = refl
 nonzero-tab (suc n) f h = nonzero-both (tab n f) (f n ∷ []) (nonzero-tab n f h) (keeps (f n) [] (h n))

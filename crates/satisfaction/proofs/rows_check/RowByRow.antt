@@ -1,5 +1,5 @@
 -- A row as the check judges it. The buffer holds the terms of the row's form, without the zero ones and in the letters' order;
--- their values are those of the row, where they stand sorted.
+-- their values are those of the row, where they stand sorted, and residues tell of it what its coefficients do.
 use mathlib.Core.List.{List}
 use mathlib.Core.Path.{_≡_, _∙_, ap, ap₂, subst, sym}
 use Prim.Native.Nat.{ℕ, _+_, _-_, _*_, _%_, _≤_, _<_}
@@ -18,11 +18,13 @@ use Rattle.circuit.specs.Wires.{wireCount}
 use Rattle.circuit.specs.declared.circuits.Circuit.{Circuit}
 use Rattle.encoding.proofs.Written.{length-written}
 use Rattle.field.specs.Field.{p}
+use Rattle.forms.proofs.exact.Signed.{rows-unaltered}
 use Rattle.forms.proofs.exact.Values.{value-nonzero, value-normal}
 use Rattle.forms.proofs.terms.FlatAll.{all-front}
 use Rattle.forms.proofs.terms.WrittenTerms.{filled-front, filled-length}
 use Rattle.forms.specs.Rows
-use Rattle.forms.specs.Rows.{holds, letters, nonzero, rowOf, normalForm, value}
+use Rattle.forms.specs.Former.{formerHolds, formerValue}
+use Rattle.forms.specs.Rows.{holds, letters, nonzero, rowOf, normalForm}
 use Rattle.forms.specs.Terms.{Filled, termRoom, unsorted}
 use Rattle.forms.specs.declared.form.Form.{Form}
 use Rattle.forms.specs.declared.form.Term.{Term}
@@ -32,12 +34,13 @@ use Rattle.satisfaction.specs.Lent.{Lent}
 use Rattle.satisfaction.specs.Lowest.{lowest}
 
 -- the row of a form is satisfied where that of its letters is
-holds-letters : (e : ℕ → ℕ) (f : Form) → holds e (unsorted f) ≡ holds e (rowOf f)
-unfolding holds rowOf unsorted
+holds-letters : (e : ℕ → ℕ) (f : Form) → formerHolds e (unsorted f) ≡ holds e (rowOf f)
+unfolding formerHolds rowOf unsorted
 holds-letters e f =
     let row = letters f in
-    let same : (us : List Term) → value e (nonzero us) ≡ value e (normalForm us) = λ us. value-nonzero e us ∙ sym (value-normal e us) in
+    let same : (us : List Term) → formerValue e (nonzero us) ≡ formerValue e (normalForm us) = λ us. value-nonzero e us ∙ sym (value-normal e us) in
     ap₂ eqb (ap₂ (λ x y. (x * y) % p) (same (row .A)) (same (row .B))) (ap (λ v. v % p) (same (row .C)))
+    ∙ sym (rows-unaltered e (rowOf f))
 
 -- Row k of a circuit at its place q, whose terms were filled in.
 module _ (C : Circuit) (k : ℕ) (q : Place) (at : q ≡ placeAt (blockCount C) k) (r : Counts) (before after : List ℕ)
@@ -47,20 +50,20 @@ module _ (C : Circuit) (k : ℕ) (q : Place) (at : q ≡ placeAt (blockCount C) 
   held =
       subst (λ (q : Place). Filled (unsorted (formOf C (q .block) (q .step) (q .index) (q .line))) r before after) at filled
 
-  -- no wire is past the last, and every coefficient is a residue
+  -- no wire is past the last, and every residue is below p
   pub lent : Allowed C → k < rowCount C → length before ≡ termRoom → (bytes : List ℕ) → length bytes ≡ 8 * wireCount C → BelowPrime bytes
       → Lent (r .a + r .b + r .c) after bytes
   lent allowed below room bytes size entries =
       let row = unsorted (formAt C k) in
       let fits : 2 * (r .a + r .b + r .c) ≤ length before = omega (arith, held .few) in
       let inside =
-      all-front (λ u. (u .wire .0 < wireCount C) × (u .coefficient < p)) (Rows.terms row) (letters-within C allowed k below) after _
+      all-front (λ u. (u .wire .0 < wireCount C) × (u .residue < p)) (Rows.terms row) (letters-within C allowed k below) after _
       (filled-front held fits) in
       let count = filled-length held in
       record {
         room = omega (arith, length-written (held .written));
         wires = λ t h. omega (arith, inside t (omega arith) .0);
-        coefficients = λ t h. inside t (omega arith) .1;
+        residues = λ t h. inside t (omega arith) .1;
         entries = entries;
       }
 

@@ -1,4 +1,4 @@
--- The weighted sum of a part of a row, term by term. A buffer holds two numbers a term; term t of it adds its coefficient times
+-- The weighted sum of a part of a row, term by term. A buffer holds two numbers a term; term t of it adds its residue times
 -- the entry of its wire, and a sum that is kept as a residue comes to the same modulo p. Where the buffer begins with the terms
 -- of A, then B, then C, the three sums tell whether the row is satisfied.
 use mathlib.Core.List.{List, [], _∷_, _++_}
@@ -17,7 +17,8 @@ use Rattle.forms.proofs.exact.Values.{value-append}
 use Rattle.forms.proofs.terms.Flat.{flat-length, over}
 use Rattle.forms.proofs.terms.WrittenTerms.{filled-front}
 use Rattle.forms.specs.Positions.{one}
-use Rattle.forms.specs.Rows.{Row, _·_, holds, terms, value}
+use Rattle.forms.specs.Former.{formerHolds, formerValue}
+use Rattle.forms.specs.Rows.{Row, _·_, terms}
 use Rattle.forms.specs.Terms.{Filled, flat}
 use Rattle.forms.specs.declared.form.Term.{Term}
 use Rattle.forms.specs.declared.terms.Counts.{Counts}
@@ -37,13 +38,13 @@ flat-wire (u ∷ ts) (suc t) =
     let place : 2 * suc t ≡ suc (suc (2 * t)) = omega arith in
     ap (λ i. getD (flat (u ∷ ts)) i 0) place ∙ flat-wire ts t
 
-flat-coefficient : (ts : List Term) (t : ℕ) → getD (flat ts) (2 * t + 1) 0 ≡ getD ts t none .coefficient
+flat-residue : (ts : List Term) (t : ℕ) → getD (flat ts) (2 * t + 1) 0 ≡ getD ts t none .residue
 unfolding flat
-flat-coefficient [] t = refl
-flat-coefficient (u ∷ ts) zero = refl
-flat-coefficient (u ∷ ts) (suc t) =
+flat-residue [] t = refl
+flat-residue (u ∷ ts) zero = refl
+flat-residue (u ∷ ts) (suc t) =
     let place : 2 * suc t + 1 ≡ suc (suc (2 * t + 1)) = omega arith in
-    ap (λ i. getD (flat (u ∷ ts)) i 0) place ∙ flat-coefficient ts t
+    ap (λ i. getD (flat (u ∷ ts)) i 0) place ∙ flat-residue ts t
 
 -- an element of the second list
 past : (xs ys : List Term) (t : ℕ) → length xs ≤ t → getD (xs ++ ys) t none ≡ getD ys (t - length xs) none
@@ -56,11 +57,11 @@ module _ (bytes terms : List ℕ) (from to : ℕ) where
   abbrev Running : ℕ → ℕ → Type 0
   Running t s =
       (xs ts : List Term) (rest : List ℕ) → length xs ≡ from → from + length ts ≡ to → terms ≡ flat (xs ++ ts) ++ rest
-      → s ≡ value (entry bytes) (take (t - from) ts) % p
+      → s ≡ formerValue (entry bytes) (take (t - from) ts) % p
 
   running-none : Running from 0
-  unfolding value
-  running-none xs ts rest hx ht e = ap (λ n. value (entry bytes) (take n ts) % p) (sym (sub-self from))
+  unfolding formerValue
+  running-none xs ts rest hx ht e = ap (λ n. formerValue (entry bytes) (take n ts) % p) (sym (sub-self from))
 
   module _ (xs ts : List Term) (rest : List ℕ) (hx : length xs ≡ from) (ht : from + length ts ≡ to) (e : terms ≡ flat (xs ++ ts) ++ rest)
       (t : ℕ) (l : from ≤ t) (h : t < to) where
@@ -81,24 +82,24 @@ module _ (bytes terms : List ℕ) (from to : ℕ) where
         ∙ flat-wire (xs ++ ts) t
         ∙ ap (λ u. u .wire .0) here
 
-    coefficient-number : getD terms (2 * t + 1) 0 ≡ term .coefficient
-    coefficient-number =
+    residue-number : getD terms (2 * t + 1) 0 ≡ term .residue
+    residue-number =
         ap (λ ns. getD ns (2 * t + 1) 0) e
         ∙ List·getD-append (flat (xs ++ ts)) rest 0 (2 * t + 1) (in-reach (2 * t + 1) (omega arith))
-        ∙ flat-coefficient (xs ++ ts) t
-        ∙ ap (λ u. u .coefficient) here
+        ∙ flat-residue (xs ++ ts) t
+        ∙ ap (λ u. u .residue) here
 
     -- what it adds
     added : (getD terms (2 * t + 1) 0 * entry bytes (getD terms (2 * t) 0)) % p
-        ≡ (term .coefficient * entry bytes (term .wire .0)) % p
-    added = ap₂ (λ c w. (c * entry bytes w) % p) coefficient-number wire-number
+        ≡ (term .residue * entry bytes (term .wire .0)) % p
+    added = ap₂ (λ c w. (c * entry bytes w) % p) residue-number wire-number
 
-    one-more : value (entry bytes) (take (t + 1 - from) ts) ≡ value (entry bytes) (take (t - from) ts) + term .coefficient * entry bytes (term .wire .0)
-    unfolding value
+    one-more : formerValue (entry bytes) (take (t + 1 - from) ts) ≡ formerValue (entry bytes) (take (t - from) ts) + term .residue * entry bytes (term .wire .0)
+    unfolding formerValue
     one-more =
         let next : t + 1 - from ≡ suc (t - from) = omega arith in
-        ap (λ n. value (entry bytes) (take n ts)) next
-        ∙ ap (value (entry bytes)) (take-suc ts (t - from) none (omega arith))
+        ap (λ n. formerValue (entry bytes) (take n ts)) next
+        ∙ ap (formerValue (entry bytes)) (take-suc ts (t - from) none (omega arith))
         ∙ value-append (entry bytes) (take (t - from) ts) _
         ∙ omega arith
 
@@ -113,7 +114,7 @@ module _ (bytes terms : List ℕ) (from to : ℕ) where
 abbrev pub Value : List ℕ → List ℕ → ℕ → ℕ → ℕ → Type 0
 Value bytes terms from to v =
     (xs ts : List Term) (rest : List ℕ) → length xs ≡ from → from + length ts ≡ to → terms ≡ flat (xs ++ ts) ++ rest
-    → v ≡ value (entry bytes) ts % p
+    → v ≡ formerValue (entry bytes) ts % p
 
 -- s is what the terms from `from` to t come to, of those to `to`; the buffer has n terms in all
 pub record Summed (bytes terms : List ℕ) (n from to t s : ℕ) : Type 0 where
@@ -129,7 +130,7 @@ fewer m l h =
     record {
       room = omega (arith, h .room);
       wires = λ t k. h .wires t (omega arith);
-      coefficients = λ t k. h .coefficients t (omega arith);
+      residues = λ t k. h .residues t (omega arith);
       entries = h .entries;
     }
 
@@ -160,13 +161,13 @@ module _ (bytes terms : List ℕ) (n from to : ℕ) where
 
   pub summed-value : (t s : ℕ) → Summed bytes terms n from to t s → to ≤ t → Value bytes terms from to s
   summed-value t s h l xs ts rest hx ht e =
-      h .value xs ts rest hx ht e ∙ ap (λ us. value (entry bytes) us % p) (take-all (t - from) ts (omega arith))
+      h .value xs ts rest hx ht e ∙ ap (λ us. formerValue (entry bytes) us % p) (take-all (t - from) ts (omega arith))
 
 -- A row whose terms are filled in, with what its parts come to.
 module _ (bytes after before : List ℕ) (row : Row) (r : Counts) (h : Filled row r before after) where
   pub judged-row : 2 * (r .a + r .b + r .c) ≤ length after → (a b c : ℕ) → Value bytes after 0 (r .a) a → Value bytes after (r .a) (r .a + r .b) b → Value bytes after (r .a + r .b) (r .a + r .b + r .c) c
-      → eqb ((a * b) % p) c ≡ holds (entry bytes) row
-  unfolding holds terms
+      → eqb ((a * b) % p) c ≡ formerHolds (entry bytes) row
+  unfolding formerHolds terms
   judged-row room a b c va vb vc =
       let A = row .A in
       let B = row .B in
@@ -179,4 +180,4 @@ module _ (bytes after before : List ℕ) (row : Row) (r : Counts) (h : Filled ro
       va [] A (flat B ++ (flat C ++ rest)) refl (zero-add (length A) ∙ sym (h .a)) (inner ∙ over A B (flat C ++ rest)) in
       let eb = vb A B (flat C ++ rest) (sym (h .a)) (ap (λ i. r .a + i) (sym (h .b))) inner in
       let ec = vc (A ++ B) C rest (omega (arith, h .a, h .b, length-append A B)) (ap (λ i. r .a + r .b + i) (sym (h .c))) whole in
-      ap₂ eqb (ap₂ (λ x y. (x * y) % p) ea eb ∙ sym (mul-mod (value (entry bytes) A) (value (entry bytes) B) p)) ec
+      ap₂ eqb (ap₂ (λ x y. (x * y) % p) ea eb ∙ sym (mul-mod (formerValue (entry bytes) A) (formerValue (entry bytes) B) p)) ec

@@ -2,6 +2,7 @@
 use mathlib.Core.Path.{refl, _∙_}
 use borrow.Author.Needs.{needs}
 use Rattle.circuit.proofs.given_row.GivenRows.{filled-counted, filled-left, room-short, row-given, row-outside}
+use Rattle.circuit.proofs.shape.Coefficients.{held-residues}
 use Rattle.circuit.specs.GivenRow.{givenLeft}
 use Rattle.circuit.proofs.given_row.give_row.Statement.{statement}
 use Rattle.circuit.proofs.given_row.give_row.Tie as tie
@@ -34,7 +35,12 @@ add-put-terms-2 : tie.Need-add-put-terms-2
 add-put-terms-2 c = search needs
 
 put-terms-requires : tie.Need-put-terms-requires
-put-terms-requires c κs = search needs
+put-terms-requires c κs =
+    let filled = c .before .before .before .before .before in
+    let tests = filled .before .before in
+    let counted = tests .before .before in
+    let below = rw (counted .row-count .ensures .0) at (tests .before .if1 .left) in
+    (search needs, search needs, held-residues _ (counted .before .before .pre) _ below (filled .row-terms .ensures) (search needs))
 
 same-length : tie.Need-same-length
 same-length c = search needs

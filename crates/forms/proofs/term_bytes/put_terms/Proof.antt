@@ -39,7 +39,10 @@ shared-slice-read-t19 : tie.Need-shared-slice-read-t19 Inv-loop μ-loop
 shared-slice-read-t19 c = search needs
 
 put-term-requires : tie.Need-put-term-requires Inv-loop μ-loop
-put-term-requires c κs = search needs
+put-term-requires c κs =
+    let turn = c .before .before .before in
+    let start = turn .before .before .before .before in
+    (search needs, start .pre .2 _ (turn .loop-test .taken))
 
 add-i : tie.Need-add-i Inv-loop μ-loop
 add-i c = search needs

@@ -8,8 +8,8 @@ use Rattle.forms.proofs.terms.fill_difference.Tie as tie
 push-digits-requires : tie.Need-push-digits-requires
 push-digits-requires c κs = search needs
 
-signed-requires : tie.Need-signed-requires
-signed-requires c κs = search needs
+with-sign-requires : tie.Need-with-sign-requires
+with-sign-requires c κs = search needs
 
 push-requires : tie.Need-push-requires
 push-requires c κs = search needs
@@ -43,7 +43,7 @@ returns c =
     let a = start .args in
     let digits = first .push-digits .ensures in
     difference-filled (a .digits) (a .above) (a .bound) (a .width) (a .r) (start .pre .1) _ (digits .0) (digits .1) (digits .2)
-    (rw (sign .signed .ensures) at (second .push .ensures))
+    (rw (sign .with-sign .ensures) at (second .push .ensures))
     (third .push-number .ensures)
     (fourth .push2 .ensures)
 
@@ -52,7 +52,7 @@ fill-difference-spec =
     tie.close
     (tie.spec
     push-digits-requires
-    signed-requires
+    with-sign-requires
     push-requires
     add-push-number
     push-number-requires

@@ -9,7 +9,7 @@ use Rattle.encoding.specs.Sequence.{tab}
 use Rattle.encoding.specs.Written.{Written}
 use Rattle.forms.proofs.terms.DifferenceTerms.{few, halved, numberTerm}
 use Rattle.forms.proofs.terms.WrittenTerms.{terms-next}
-use Rattle.forms.specs.Rows.{_·_, numberTerms, signed}
+use Rattle.forms.specs.Rows.{_·_, numberTerms, withSign}
 use Rattle.forms.specs.Terms.{flat}
 use Rattle.forms.proofs.terms.push_number.Statement.{statement}
 use Rattle.forms.proofs.terms.push_number.Tie as tie
@@ -39,14 +39,14 @@ add-push c = search needs
 wire-past-requires : tie.Need-wire-past-requires Inv-loop μ-loop
 wire-past-requires c κs = search needs
 
-mul-signed : tie.Need-mul-signed Inv-loop μ-loop
-mul-signed c =
+mul-with-sign : tie.Need-mul-with-sign Inv-loop μ-loop
+mul-with-sign c =
     let loop = c .before .before .before in
     let a = loop .before .before .args in
     omega (arith, few (a .k) (64 / 2 ^ (7 - a .width + loop .loop .i)) (loop .before .before .pre .1) (shr-le 64 (7 - a .width + loop .loop .i)))
 
-signed-requires : tie.Need-signed-requires Inv-loop μ-loop
-signed-requires c κs =
+with-sign-requires : tie.Need-with-sign-requires Inv-loop μ-loop
+with-sign-requires c κs =
     let loop = c .before .before .before in
     let a = loop .before .before .args in
     omega (arith, few (a .k) (64 / 2 ^ (7 - a .width + loop .loop .i)) (loop .before .before .pre .1) (shr-le 64 (7 - a .width + loop .loop .i)))
@@ -72,7 +72,7 @@ loop-again c =
     let i = loop .loop .i in (
       omega arith,
       terms-next (a .n) i (numberTerm (a .plus) (a .k) (a .width) (a .w)) _ (loop .loop .inv .1)
-          (ap₂ _·_ (sign .signed .ensures ∙ ap (λ (m : ℕ). signed (a .plus) (a .k * m)) (halved (a .width) i (start .pre .2) (turn .loop-test .taken))) (wire .wire-past .ensures))
+          (ap₂ _·_ (sign .with-sign .ensures ∙ ap (λ (m : ℕ). withSign (a .plus) (a .k * m)) (halved (a .width) i (start .pre .2) (turn .loop-test .taken))) (wire .wire-past .ensures))
           (push .push .ensures),
     )
 
@@ -99,8 +99,8 @@ push-number-spec =
     shr-weight
     add-push
     wire-past-requires
-    mul-signed
-    signed-requires
+    mul-with-sign
+    with-sign-requires
     push-requires
     add-i
     loop-less

@@ -1,10 +1,11 @@
--- After i turns the lines of the first i terms are written, each of at most 65 bytes.
+-- After i turns the lines of the first i terms are written, each of at most 66 bytes.
 use mathlib.Core.List.{List}
 use mathlib.Core.Path.{_≡_}
 use Prim.Native.Nat.{ℕ, _+_, _-_, _*_, _≤_}
 use native.Mathlib.Omega.{arith}
 use borrow.Author.Needs.{needs}
 use lib.ListN.{getD, length}
+use Rattle.forms.specs.Coefficients.{signed}
 use Rattle.text.proofs.Put.{put-none, put-then}
 use Rattle.text.specs.Put.{Put}
 use Rattle.listing.specs.Held.{heldLines}
@@ -47,7 +48,11 @@ shared-slice-read-put-term-line-2 : tie.Need-shared-slice-read-put-term-line-2 I
 shared-slice-read-put-term-line-2 c = search needs
 
 put-term-line-requires : tie.Need-put-term-line-requires Inv-loop μ-loop
-put-term-line-requires c κs = search needs
+put-term-line-requires c κs =
+    let turn = c .before .before .before in
+    let args = turn .before .before .before .before in
+    let low = turn .loop-test .taken in
+    (search needs, args .pre .2 _ (omega arith))
 
 add-i : tie.Need-add-i Inv-loop μ-loop
 add-i c = search needs
@@ -63,7 +68,7 @@ loop-again c =
     let args = at-loop .before .before .before .args in
     let i = at-loop .loop .i in
     let held = args .terms .now in
-    let next : ℕ → List ℕ = λ k. termLine (args .row .0) (args .part) (getD held (2 * k) 0) (getD held (2 * k + 1) 0) in (
+    let next : ℕ → List ℕ = λ k. termLine (args .row .0) (args .part) (getD held (2 * k) 0) (signed (getD held (2 * k + 1) 0)) in (
       search needs,
       omega (arith, put .put-term-line .ensures .1),
       search needs,

@@ -1,10 +1,12 @@
--- The parts go one after the other; a row has at most 163 terms, each of a line of at most 65 bytes.
+-- The parts go one after the other; a row has at most 163 terms, each of a line of at most 66 bytes.
 use mathlib.Core.Path.{_≡_}
-use Prim.Native.Nat.{_+_}
+use Prim.Native.Nat.{ℕ, _+_, _*_, _<_}
 use native.Mathlib.Omega.{arith}
 use borrow.Author.Needs.{needs}
-use lib.ListN.{length}
+use lib.ListN.{getD, length}
+use Rattle.circuit.proofs.shape.Coefficients.{held-residues}
 use Rattle.circuit.specs.Circuit.{rowAt}
+use Rattle.field.specs.Field.{p}
 use Rattle.forms.proofs.terms.WrittenTerms.{filled-front}
 use Rattle.text.proofs.Put.{put-then}
 use Rattle.listing.specs.Rows.{rowLines}
@@ -15,17 +17,31 @@ use Rattle.listing.proofs.term.put_row.Tie as tie
 row-terms-requires : tie.Need-row-terms-requires
 row-terms-requires c κs = search needs
 
+-- the terms that were filled in have residues below p
+residues : (c : tie.After-row-terms) (t : ℕ) → t < c .row-terms .result .a + c .row-terms .result .b + c .row-terms .result .c
+    → getD (c .row-terms .last .1 .1 .0) (2 * t + 1) 0 < p
+residues c =
+    let start = c .before .before .before .before in
+    held-residues _ (start .pre .1) _ (start .pre .2) (c .row-terms .ensures) (start .pre .3)
+
 put-part-requires : tie.Need-put-part-requires
-put-part-requires c κs = search needs
+put-part-requires c κs =
+    let filled = c .before .before .before .before in
+    (search needs, search needs, (λ t low. residues filled t (omega arith)))
 
 put-part-requires-2 : tie.Need-put-part-requires-2
-put-part-requires-2 c κs = search needs
+put-part-requires-2 c κs =
+    let filled = c .before .before .before .before .before .before .before .before .before in
+    (search needs, search needs, (λ t low. residues filled t (omega arith)))
 
 add-put-part : tie.Need-add-put-part
 add-put-part c = search needs
 
 put-part-requires-3 : tie.Need-put-part-requires-3
-put-part-requires-3 c κs = search needs
+put-part-requires-3 c κs =
+    let filled =
+    c .before .before .before .before .before .before .before .before .before .before .before .before .before .before .before in
+    (search needs, search needs, (λ t low. residues filled t (omega arith)))
 
 same-length : tie.Need-same-length
 same-length c = search needs

@@ -26,11 +26,12 @@ add-put-field c = search needs
 put-field-requires-2 : tie.Need-put-field-requires-2
 put-field-requires-2 c κs = simp length-set (omega arith)
 
-put-field-requires-3 : tie.Need-put-field-requires-3
-put-field-requires-3 c κs =
+put-coefficient-requires : tie.Need-put-coefficient-requires
+put-coefficient-requires c κs =
     let second = c .before .before .before in
     let kept = simp length-set at (length-put (second .put-field2 .ensures .0)) in
-    omega (arith, kept)
+    let start = second .before .before .before .before .before .before .before in
+    (omega (arith, kept), start .pre .1)
 
 returns : tie.Need-returns
 unfolding termLine
@@ -42,8 +43,8 @@ returns c =
       put-then
           (put-then (put-then (first .put-field .ensures .0) (put-two _ (first .put-field .result) part comma))
           (second .put-field2 .ensures .0))
-          (third .put-field3 .ensures .0),
-      omega (arith, third .put-field3 .ensures .1, second .put-field2 .ensures .1, first .put-field .ensures .1),
+          (third .put-coefficient .ensures .0),
+      omega (arith, third .put-coefficient .ensures .1, second .put-field2 .ensures .1, first .put-field .ensures .1),
     )
 
 same-length : tie.Need-same-length
@@ -59,6 +60,6 @@ put-term-line-spec =
     slice-write-out-2
     add-put-field
     put-field-requires-2
-    put-field-requires-3
+    put-coefficient-requires
     same-length
     returns)

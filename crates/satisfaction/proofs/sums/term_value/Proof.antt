@@ -37,7 +37,7 @@ shared-slice-read-times-2 c = search needs
 times-requires : tie.Need-times-requires
 times-requires c κs =
     let start = c .before .before .before .before .before in
-    (start .pre .coefficients (start .args .t) (omega arith), subst (λ (x : ℕ). x < p) (sym (c .before .read .ensures)) (start .pre .entries .each _))
+    (start .pre .residues (start .args .t) (omega arith), subst (λ (x : ℕ). x < p) (sym (c .before .read .ensures)) (start .pre .entries .each _))
 
 returns : tie.Need-returns
 returns c =

@@ -1,8 +1,8 @@
 -- The code's test chooses as the definition's does.
 use borrow.Author.Needs.{needs}
 use Rattle.forms.specs.Rows
-use Rattle.forms.proofs.terms.signed.Statement.{statement}
-use Rattle.forms.proofs.terms.signed.Tie as tie
+use Rattle.forms.proofs.terms.with_sign.Statement.{statement}
+use Rattle.forms.proofs.terms.with_sign.Tie as tie
 
 returns : tie.Need-returns
 returns c = rw (c .if1 .taken)
@@ -13,5 +13,5 @@ sub-result c = search needs
 returns-2 : tie.Need-returns-2
 returns-2 c = rw (c .if1 .left)
 
-pub signed-spec : {M : Type 1} → statement M
-signed-spec = tie.close (tie.spec returns sub-result returns-2)
+pub with-sign-spec : {M : Type 1} → statement M
+with-sign-spec = tie.close (tie.spec returns sub-result returns-2)
