@@ -9,10 +9,10 @@ use crate::length::{right_assignment, Length};
 use crate::refusal::Refusal;
 use crate::rows;
 
-/// The value of a weighted sum of wires.
+/// The value of a weighted sum of wires. A signed coefficient counts modulo p.
 fn evaluate(sum: &[Term], entries: &[u64]) -> u64 {
     sum.iter().fold(0, |total, term| {
-        let product = field::multiply(term.coefficient, entries[term.wire.0 as usize]);
+        let product = field::multiply(term.residue(), entries[term.wire.0 as usize]);
         field::add(total, product)
     })
 }

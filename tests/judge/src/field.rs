@@ -2,7 +2,7 @@
 
 pub const P: u64 = 2305843009213693951;
 
-/// A small whole number, negative ones too, as a number from 0 to p - 1.
+/// A whole number, negative ones too, as a number from 0 to p - 1.
 pub fn from_signed(number: i64) -> u64 {
     number.rem_euclid(P as i64) as u64
 }

@@ -1,6 +1,6 @@
 //! Terms, a table of rows, and the row forms of the list in "Rows".
 
-use crate::field;
+use crate::field::{self, P};
 
 /// A wire number. "A row number and a wire number both count from 0 and are
 /// never taken for each other."
@@ -11,11 +11,29 @@ pub struct Wire(pub u32);
 #[derive(Clone, Copy, Debug, PartialEq, Eq, PartialOrd, Ord)]
 pub struct RowNumber(pub u32);
 
-/// One wire with its coefficient, from 1 to p - 1.
+/// One wire with its coefficient, signed: from -(p - 1) / 2 to (p - 1) / 2 and
+/// not 0.
 #[derive(Clone, Copy, Debug, PartialEq, Eq)]
 pub struct Term {
     pub wire: Wire,
-    pub coefficient: u64,
+    pub coefficient: i64,
+}
+
+impl Term {
+    /// The coefficient modulo p, from 1 to p - 1.
+    pub fn residue(&self) -> u64 {
+        field::from_signed(self.coefficient)
+    }
+}
+
+/// "A coefficient above (p - 1) / 2 is given minus p", any other as it is: from
+/// a coefficient below p to the signed number.
+fn signed(residue: u64) -> i64 {
+    if residue > (P - 1) / 2 {
+        residue as i64 - P as i64
+    } else {
+        residue as i64
+    }
 }
 
 /// "A row is three weighted sums of wires A, B, C."
@@ -94,14 +112,14 @@ impl RowTable {
     }
 
     /// "Terms stand by rising wire, coefficients from 1 to p - 1, zero ones
-    /// omitted." A wire that came twice would have its coefficients added.
-    /// Returns where the sum ends.
+    /// omitted"; each is then given signed. A wire that came twice would have
+    /// its coefficients added. Returns where the sum ends.
     fn push_sum(&mut self, sum: &[Weighted]) -> usize {
         let begin = self.terms.len();
         for &(wire, weight) in sum {
             self.terms.push(Term {
                 wire,
-                coefficient: field::from_signed(weight),
+                coefficient: signed(field::from_signed(weight)),
             });
         }
         self.terms[begin..].sort_by_key(|term| term.wire);
@@ -115,8 +133,8 @@ impl RowTable {
         for index in begin..self.terms.len() {
             let term = self.terms[index];
             if kept > begin && self.terms[kept - 1].wire == term.wire {
-                let sum = field::add(self.terms[kept - 1].coefficient, term.coefficient);
-                self.terms[kept - 1].coefficient = sum;
+                let sum = field::add(self.terms[kept - 1].residue(), term.residue());
+                self.terms[kept - 1].coefficient = signed(sum);
             } else {
                 self.terms[kept] = term;
                 kept += 1;
@@ -209,4 +227,27 @@ pub fn weighted(bits: &[Wire], factor: i64) -> impl Iterator<Item = Weighted> + 
     bits.iter()
         .zip(places)
         .map(move |(&w, place)| (w, factor << place))
+}
+
+#[cfg(test)]
+mod tests {
+    use super::*;
+
+    #[test]
+    fn coefficients_above_half_of_the_prime_are_given_minus_it() {
+        const HALF: i64 = (1 << 60) - 1;
+        assert_eq!(signed(1), 1);
+        assert_eq!(signed((P - 1) / 2), HALF);
+        assert_eq!(signed((P - 1) / 2 + 1), -HALF);
+        assert_eq!(signed(P - 1), -1);
+    }
+
+    #[test]
+    fn a_residue_is_the_coefficient_before_it_was_signed() {
+        let half = (P - 1) / 2;
+        for residue in [1, 2, half - 1, half, half + 1, half + 2, P - 2, P - 1] {
+            let (wire, coefficient) = (ONE, signed(residue));
+            assert_eq!(Term { wire, coefficient }.residue(), residue);
+        }
+    }
 }

@@ -1,18 +1,20 @@
 //! An outside judge for the paper "SM3 record rows over the prime 2^61 - 1".
 //!
-//! Everything here was written from that paper alone and from the first six of
+//! Everything here was written from that paper alone and from the first seven of
 //! its change requests, "Packed assignments", "Lengths in bits", "Passage
 //! records", "Sealing in one pass", which asks for no other answer, "Axles
-//! between two bounds" and "Entries below the prime"; but the programs `steps`,
-//! `axle_rows` and `axle_steps` have their formats from docs/STEPS.md. Sentences
-//! of the papers are quoted in the comments beside the code that follows them.
+//! between two bounds", "Entries below the prime" and "Signed coefficients"; but
+//! the programs `steps`, `axle_rows` and `axle_steps` have their formats from
+//! docs/STEPS.md. Sentences of the papers are quoted in the comments beside the
+//! code that follows them.
 //!
 //! * `sm3`: the hash, and every word it computes on the way ("SM3 as used").
 //! * `length`: lengths in range and the counts of blocks, wires and rows.
 //! * `record`: bit strings, and the bytes that they are handed over in.
 //! * `layout`: the wires of a record, from the record alone ("Wires",
 //!   "The words of demand 3").
-//! * `forms`: the row forms ("Rows", its list of equations).
+//! * `forms`: terms with signed coefficients, and the row forms ("Rows", its list
+//!   of equations).
 //! * `rows`: all rows of a length, by walking the blocks in wire order.
 //! * `entries`: the entries of an assignment, each below p.
 //! * `check`: the check of an assignment against a digest.

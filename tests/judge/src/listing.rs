@@ -51,7 +51,8 @@ pub(crate) fn accept(input: &[u8]) -> Result<(Length, Range<usize>), Refusal> {
     Ok((length, asked(first, how_many, length.rows())?))
 }
 
-/// Lines `row,part,wire,coefficient` of one sum.
+/// Lines `row,part,wire,coefficient` of one sum, a negative coefficient "with a
+/// leading `-`".
 fn print_sum(out: &mut String, row: RowNumber, part: char, sum: &[Term]) {
     for term in sum {
         out.push_str(&format!(

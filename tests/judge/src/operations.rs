@@ -94,7 +94,8 @@ fn write_row(row: Row<'_>, buffer: &mut [u8]) -> Counts {
     }
 }
 
-/// "Wire 4, coefficient 8, least byte first."
+/// "Wire 4, coefficient 8, least byte first", and the coefficient "as 8 bytes
+/// two's complement".
 fn term_bytes(term: Term) -> [u8; 12] {
     let mut bytes = [0; 12];
     bytes[..4].copy_from_slice(&term.wire.0.to_le_bytes());

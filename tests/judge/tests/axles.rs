@@ -4,11 +4,10 @@
 mod support;
 
 use judge::axles::{self, band::Axles, layout, rows};
-use judge::field::P;
 use judge::forms::{RowNumber, RowTable};
 use judge::operations;
 use support::axles::{all_bounds, bits_of, bounds, line, produced, APPENDED, ASSIGNMENT};
-use support::{entry, holds, length, plain, Plain, OLD};
+use support::{entry, holds, in_range, length, plain, Plain, OLD};
 
 /// The appended wires of an assignment, as text.
 fn appended_text(assignment: &[u8]) -> String {
@@ -18,34 +17,25 @@ fn appended_text(assignment: &[u8]) -> String {
         .collect()
 }
 
-/// -k as a coefficient.
-fn minus(k: u64) -> u64 {
-    P - k
-}
-
 /// One of the appended rows, by its number in the circuit.
 fn appended_row(lower: u64, upper: u64, number: u32) -> Plain {
     plain(rows::appended(bounds(lower, upper)).row(RowNumber(number - APPENDED)))
 }
 
 /// Terms of such weights on wires from one on.
-fn terms(first: u32, weights: &[i64]) -> Vec<(u32, u64)> {
-    let coefficient = |&weight: &i64| match weight {
-        0.. => weight as u64,
-        _ => minus(weight.unsigned_abs()),
-    };
-    (first..).zip(weights.iter().map(coefficient)).collect()
+fn terms(first: u32, weights: &[i64]) -> Vec<(u32, i64)> {
+    (first..).zip(weights.iter().copied()).collect()
 }
 
 /// A sum row: its terms part by part, times 1 is 0.
-fn sum_row(parts: [Vec<(u32, u64)>; 4]) -> Plain {
+fn sum_row(parts: [Vec<(u32, i64)>; 4]) -> Plain {
     [parts.concat(), vec![(0, 1)], vec![]]
 }
 
 #[test]
 fn the_worked_row_of_the_layout() {
     let expected = sum_row([
-        vec![(0, minus(2))],
+        vec![(0, -2)],
         terms(653, &[80, 40, 20, 10]),
         terms(661, &[8, 4, 2, 1]),
         terms(45_577, &[-64, -32, -16, -8, -4, -2, -1]),
@@ -85,7 +75,7 @@ fn the_fixed_rows_and_the_bit_rows() {
         .chain(65_170..=65_176)
         .chain(65_178..=65_184);
     for (number, wire) in bit_rows.zip(45_569..) {
-        let expected = [vec![(wire, 1)], vec![(0, minus(1)), (wire, 1)], vec![]];
+        let expected = [vec![(wire, 1)], vec![(0, -1), (wire, 1)], vec![]];
         assert_eq!(appended_row(7, 8, number), expected);
     }
 }
@@ -99,17 +89,14 @@ fn counts() {
     assert_eq!(rows::appended(bounds(2, 99)).count(), 34);
 }
 
-/// Terms by rising wire below the count, coefficients from 1 to p - 1, no more
+/// Terms by rising wire below the count, coefficients in their range, no more
 /// than 163 terms.
 fn assert_shape(table: &RowTable) {
     for (number, row) in table.iter() {
         assert!(row.terms() <= 163, "{number:?}");
         for sum in [row.a, row.b, row.c] {
             assert!(sum.windows(2).all(|two| two[0].wire < two[1].wire));
-            let right = |c: u64| (1..P).contains(&c);
-            assert!(sum
-                .iter()
-                .all(|t| right(t.coefficient) && t.wire.0 < 45_591));
+            assert!(sum.iter().all(|t| in_range(t) && t.wire.0 < 45_591));
         }
     }
 }

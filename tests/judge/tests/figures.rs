@@ -1,4 +1,5 @@
-//! "Worked figures", all of them, and the counts that the text states.
+//! "Worked figures", all of them, and the counts that the text states. Their
+//! coefficient p - 1 is given as -1 by "Signed coefficients".
 
 mod support;
 
@@ -83,7 +84,7 @@ fn row_256_at_lengths_0_and_1() {
     let fixed = rows::rows(length(0));
     let expected = [vec![(513, 1)], vec![(0, 1)], vec![(0, 1)]];
     assert_eq!(plain(fixed.row(RowNumber(256))), expected);
-    let expected = [vec![(513, 1)], vec![(0, P - 1), (513, 1)], vec![]];
+    let expected = [vec![(513, 1)], vec![(0, -1), (513, 1)], vec![]];
     for bits in [1, 8] {
         let bit = rows::rows(length(bits));
         assert_eq!(plain(bit.row(RowNumber(256))), expected);
@@ -93,7 +94,7 @@ fn row_256_at_lengths_0_and_1() {
 #[test]
 fn row_32576_at_length_0() {
     let table = rows::rows(length(0));
-    let expected = [vec![(1, 1), (22_785, P - 1)], vec![(0, 1)], vec![]];
+    let expected = [vec![(1, 1), (22_785, -1)], vec![(0, 1)], vec![]];
     assert_eq!(plain(table.row(RowNumber(32_576))), expected);
 }
 

@@ -3,7 +3,6 @@
 
 mod support;
 
-use judge::field::P;
 use judge::forms::RowNumber;
 use judge::rows;
 use support::{length, plain, Plain};
@@ -52,13 +51,13 @@ fn the_parts_end_where_the_paper_says() {
 fn first_rows_of_the_expansion() {
     // q for j = 16: W0 xor W7 xor W13<<<15, highest position.
     let (x, y, z, r) = (BLOCK, BLOCK + 7 * 32, BLOCK + 13 * 32 + 15, EXPANSION);
-    let bit = [vec![(r, 1)], vec![(0, P - 1), (r, 1)], vec![]];
+    let bit = [vec![(r, 1)], vec![(0, -1), (r, 1)], vec![]];
     assert_eq!(row(0, EXPANSION_ROWS), bit);
-    let a = vec![(x, 1), (y, 1), (z, 1), (r, P - 1)];
-    let b = vec![(0, P - 2), (x, 1), (y, 1), (z, 1), (r, P - 1)];
+    let a = vec![(x, 1), (y, 1), (z, 1), (r, -1)];
+    let b = vec![(0, -2), (x, 1), (y, 1), (z, 1), (r, -1)];
     assert_eq!(row(0, EXPANSION_ROWS + 1), [a, b, vec![]]);
     // The second position follows at once.
-    let bit = [vec![(r + 1, 1)], vec![(0, P - 1), (r + 1, 1)], vec![]];
+    let bit = [vec![(r + 1, 1)], vec![(0, -1), (r + 1, 1)], vec![]];
     assert_eq!(row(0, EXPANSION_ROWS + 2), bit);
 }
 
@@ -68,8 +67,8 @@ fn last_row_of_p1_of_q() {
     let (q, r) = (EXPANSION, EXPANSION + 32 + 31);
     let (x, y, z) = (q + 31, turned(q, 31, 15), turned(q, 31, 23));
     assert_eq!((y, z), (q + 14, q + 22));
-    let a = vec![(y, 1), (z, 1), (x, 1), (r, P - 1)];
-    let b = vec![(0, P - 2), (y, 1), (z, 1), (x, 1), (r, P - 1)];
+    let a = vec![(y, 1), (z, 1), (x, 1), (r, -1)];
+    let b = vec![(0, -2), (y, 1), (z, 1), (x, 1), (r, -1)];
     assert_eq!(row(0, EXPANSION_ROWS + 127), [a, b, vec![]]);
 }
 
@@ -83,15 +82,15 @@ fn last_row_of_w67() {
         w(61) + 31,
         w(67) + 31,
     );
-    let a = vec![(y, 1), (z, 1), (p1, 1), (r, P - 1)];
-    let b = vec![(0, P - 2), (y, 1), (z, 1), (p1, 1), (r, P - 1)];
+    let a = vec![(y, 1), (z, 1), (p1, 1), (r, -1)];
+    let b = vec![(0, -2), (y, 1), (z, 1), (p1, 1), (r, -1)];
     assert_eq!(row(0, W_PRIME_ROWS - 1), [a, b, vec![]]);
 }
 
 #[test]
 fn first_row_of_w_prime() {
     let (x, y, r) = (BLOCK, BLOCK + 4 * 32, W_PRIME);
-    let c = vec![(x, 1), (y, 1), (r, P - 1)];
+    let c = vec![(x, 1), (y, 1), (r, -1)];
     assert_eq!(row(0, W_PRIME_ROWS), [vec![(x, 2)], vec![(y, 1)], c]);
 }
 
@@ -101,13 +100,13 @@ fn the_sum_row_of_u_in_round_0() {
     let mut terms = vec![(0, 0x79cc4519)];
     terms.extend((0..32).map(|i| (turned(a, i, 12), 1 << (31 - i))));
     terms.extend((0..32).map(|i| (e + i, 1 << (31 - i))));
-    terms.extend((0..32).map(|i| (u + i, P - (1 << (31 - i)))));
-    terms.extend([(u + 32, P - (1 << 33)), (u + 33, P - (1 << 32))]);
+    terms.extend((0..32).map(|i| (u + i, -(1 << (31 - i)))));
+    terms.extend([(u + 32, -(1 << 33)), (u + 33, -(1 << 32))]);
     terms.sort();
     assert_eq!(row(0, ROUND_ROWS + 34), [terms, vec![(0, 1)], vec![]]);
     // Before it the bit rows: 32 of the result, then the higher carry first.
     for i in 0..34 {
-        let bit = [vec![(u + i, 1)], vec![(0, P - 1), (u + i, 1)], vec![]];
+        let bit = [vec![(u + i, 1)], vec![(0, -1), (u + i, 1)], vec![]];
         assert_eq!(row(0, ROUND_ROWS + i), bit);
     }
 }
@@ -116,7 +115,7 @@ fn the_sum_row_of_u_in_round_0() {
 fn first_row_of_ss2_in_round_0() {
     // SS2 = SS1 xor A<<<12, where SS1 is u<<<7: x is of SS1, y of A.
     let (x, y, r) = (ROUNDS + 7, 257 + 12, ROUNDS + SS2);
-    let c = vec![(y, 1), (x, 1), (r, P - 1)];
+    let c = vec![(y, 1), (x, 1), (r, -1)];
     assert_eq!(row(0, ROUND_ROWS + 35), [vec![(x, 2)], vec![(y, 1)], c]);
 }
 
@@ -128,8 +127,8 @@ fn the_sum_rows_of_tt1_and_tt2_in_round_3() {
         for addend in addends {
             terms.extend((0..32).map(|i| (addend[i], 1 << (31 - i))));
         }
-        terms.extend((0..32).map(|i| (result + i, P - (1 << (31 - i)))));
-        terms.extend([(result + 32, P - (1 << 33)), (result + 33, P - (1 << 32))]);
+        terms.extend((0..32).map(|i| (result + i, -(1 << (31 - i)))));
+        terms.extend([(result + 32, -(1 << 33)), (result + 33, -(1 << 32))]);
         terms.sort();
         [terms, vec![(0, 1)], vec![]]
     };
@@ -152,15 +151,15 @@ fn majority_and_choice_in_round_16() {
     let at = LATE_ROUND_ROWS + 35 + 32;
     let (x, y, z) = (round(15) + TT1, round(14) + TT1, round(13) + TT1 + 9);
     let r = round(16) + FF;
-    let a = vec![(z, 1), (y, 1), (x, 1), (r, P - 2)];
-    let b = vec![(0, 1), (z, P - 1), (y, P - 1), (x, P - 1), (r, 2)];
-    assert_eq!(row(0, at), [vec![(r, 1)], vec![(0, P - 1), (r, 1)], vec![]]);
+    let a = vec![(z, 1), (y, 1), (x, 1), (r, -2)];
+    let b = vec![(0, 1), (z, -1), (y, -1), (x, -1), (r, 2)];
+    assert_eq!(row(0, at), [vec![(r, 1)], vec![(0, -1), (r, 1)], vec![]]);
     assert_eq!(row(0, at + 1), [a, b, vec![]]);
     // Choice by E of F or G, one row a position.
     let (e, f, g) = (round(15) + P0, round(14) + P0, round(13) + P0 + 19);
     let r = round(16) + GG;
-    let b = vec![(g, P - 1), (f, 1)];
-    let c = vec![(g, P - 1), (r, 1)];
+    let b = vec![(g, -1), (f, 1)];
+    let c = vec![(g, -1), (r, 1)];
     assert_eq!(row(0, at + 64), [vec![(e, 1)], b, c]);
 }
 
@@ -169,18 +168,18 @@ fn result_rows_of_both_blocks_and_the_digest_rows() {
     // C of the state is TT1 of round 61 turned by 9; the block began with the
     // start words. The first position of the third result word:
     let (x, y, r) = (round(61) + TT1 + 9, 257 + 64, RESULT + 64);
-    let c = vec![(y, 1), (x, 1), (r, P - 1)];
+    let c = vec![(y, 1), (x, 1), (r, -1)];
     assert_eq!(row(448, RESULT_ROWS + 64), [vec![(x, 2)], vec![(y, 1)], c]);
     // Block 1 began with the result of block 0.
     let (x, y, r) = (x + 22_528, RESULT + 64, r + 22_528);
-    let c = vec![(y, 1), (x, 1), (r, P - 1)];
+    let c = vec![(y, 1), (x, 1), (r, -1)];
     assert_eq!(
         row(448, 32_320 + RESULT_ROWS + 64),
         [vec![(x, 2)], vec![(y, 1)], c]
     );
     // The digest is the last result.
     let last = 256 + 2 * 32_320 + 255;
-    let a = vec![(256, 1), (RESULT + 22_528 + 255, P - 1)];
+    let a = vec![(256, 1), (RESULT + 22_528 + 255, -1)];
     assert_eq!(row(448, last), [a, vec![(0, 1)], vec![]]);
 }
 
@@ -190,8 +189,8 @@ fn block_bits_where_a_record_ends_inside_a_byte() {
     // the rest of block 0 zeros; block 1 ends with 450, binary 111000010.
     let table = rows::rows(length(450));
     let row = |number| plain(table.row(RowNumber(number)));
-    let bit = |wire| [vec![(wire, 1)], vec![(0, P - 1), (wire, 1)], vec![]];
-    let fixed = |wire, value: u64| {
+    let bit = |wire| [vec![(wire, 1)], vec![(0, -1), (wire, 1)], vec![]];
+    let fixed = |wire, value: u8| {
         let c = if value == 1 { vec![(0, 1)] } else { vec![] };
         [vec![(wire, 1)], vec![(0, 1)], c]
     };

@@ -100,7 +100,7 @@ fn how_many_may_be_0() {
 
 #[test]
 fn the_last_row_of_length_0() {
-    let expected = "32831,A,256,1\n32831,A,23040,2305843009213693950\n32831,B,0,1\n";
+    let expected = "32831,A,256,1\n32831,A,23040,-1\n32831,B,0,1\n";
     assert_eq!(listing(b"0,32831,1\n"), format!("{HEADER}{expected}"));
 }
 

@@ -117,6 +117,21 @@ fn row_bytes_of_the_example() {
 }
 
 #[test]
+fn a_negative_coefficient_is_8_bytes_two_s_complement() {
+    // Row 256 at 1 bit: A 513,1; B 0,-1 and 513,1.
+    let mut buffer = [OLD; ROW_BYTES];
+    assert_eq!(row(1, 256, &mut buffer), Ok(Counts { a: 1, b: 2, c: 0 }));
+    let minus_one = [0, 0, 0, 0, 255, 255, 255, 255, 255, 255, 255, 255];
+    assert_eq!(buffer[12..24], minus_one);
+    // The row of u in round 0 has -2^33 on its higher carry, wire 8,097, as
+    // the last term of A but one.
+    let counts = row(0, 12_834, &mut buffer).unwrap();
+    let at = 12 * (counts.a - 2);
+    let carry = [161, 31, 0, 0, 0, 0, 0, 0, 254, 255, 255, 255];
+    assert_eq!(buffer[at..at + 12], carry);
+}
+
+#[test]
 fn row_bytes_read_back() {
     let length = length(449);
     let table = rows::rows(length);
@@ -128,7 +143,7 @@ fn row_bytes_read_back() {
         let terms = expected.a.iter().chain(expected.b).chain(expected.c);
         for (twelve, term) in buffer.chunks(12).zip(terms) {
             let wire = u32::from_le_bytes(twelve[..4].try_into().unwrap());
-            let coefficient = u64::from_le_bytes(twelve[4..].try_into().unwrap());
+            let coefficient = i64::from_le_bytes(twelve[4..].try_into().unwrap());
             assert_eq!((wire, coefficient), (term.wire.0, term.coefficient));
         }
         assert!(untouched(&buffer[12 * expected.terms()..]));

@@ -2,11 +2,10 @@
 
 mod support;
 
-use judge::field::P;
 use judge::forms::{Row, Term};
 use judge::record::Record;
 use judge::{layout, rows};
-use support::{holds, length, record, LENGTHS};
+use support::{holds, in_range, length, record, LENGTHS};
 
 #[test]
 fn the_walk_agrees_with_the_stated_counts() {
@@ -48,7 +47,7 @@ fn every_row_is_satisfied_by_the_layout() {
 
 fn well_formed(sum: &[Term], wires: usize) -> bool {
     sum.windows(2).all(|two| two[0].wire < two[1].wire)
-        && sum.iter().all(|term| (1..P).contains(&term.coefficient))
+        && sum.iter().all(in_range)
         && sum.iter().all(|term| (term.wire.0 as usize) < wires)
 }
 

@@ -3,7 +3,6 @@
 
 mod support;
 
-use judge::field::P;
 use judge::forms::Row;
 use judge::rows;
 use judge::steps::listing;
@@ -97,7 +96,7 @@ fn a_record_that_ends_inside_a_byte() {
 
 /// The form that a row has, by its terms alone.
 fn form(row: Row<'_>) -> &'static str {
-    let majority = row.a.iter().any(|term| term.coefficient == P - 2);
+    let majority = row.a.iter().any(|term| term.coefficient == -2);
     match (row.a.len(), row.b.len(), row.c.len()) {
         (1, 1, 0 | 1) => "fixed",
         (1, 2, 0) => "bit",

@@ -5,6 +5,7 @@ use std::fmt::Display;
 
 use host::Empty;
 use judge::check::check_with;
+use judge::field::P;
 use judge::forms::{Row, RowTable};
 use judge::length::Length;
 use judge::operations::{self, Counts};
@@ -220,6 +221,30 @@ impl Calls {
         let answer = host::row(empty, length, row, out.slice_mut());
         self.answers(Operation::Row, answers::row(judged), answer, &what);
         self.memory(Operation::Row, "buffer", &must, &out, &what);
+        self.coefficients(Operation::Row, judged, out.slice(), &what);
+    }
+
+    /// Holds the coefficients of a row that the library wrote to the paper: as
+    /// signed numbers none is 0, and none is above (p - 1) / 2 without its sign.
+    pub fn coefficients(
+        &mut self,
+        operation: Operation,
+        judged: Result<Counts, Refusal>,
+        buffer: &[u8],
+        what: impl Display,
+    ) {
+        let terms = judged.map_or(0, |counts| counts.a + counts.b + counts.c);
+        let read = |twelve: &[u8]| i64::from_le_bytes(twelve[4..].try_into().expect("8 bytes"));
+        let written: Vec<i64> = buffer.chunks_exact(12).take(terms).map(read).collect();
+        let wrong = |c: &&i64| !(1..=(P - 1) / 2).contains(&c.unsigned_abs());
+        if let Some(wrong) = written.iter().find(wrong) {
+            self.tally
+                .difference(format!("{operation:?}, {what}: a coefficient is {wrong}"));
+        }
+        let negative = written.iter().filter(|c| c.is_negative()).count();
+        self.tally.count("coefficients of rows", terms as u64);
+        self.tally
+            .count("coefficients of rows, negative", negative as u64);
     }
 
     /// The check. The table must be that of the length where the length is
@@ -290,6 +315,32 @@ impl Calls {
             let (judged, must) = (told(judged), told(must));
             self.tally
                 .difference(format!("{what}: the judge has {judged}, the paper {must}"));
+        }
+    }
+}
+
+#[cfg(test)]
+mod tests {
+    use super::*;
+
+    /// The differences that a row of one term with that coefficient shows.
+    fn differences(coefficient: i64) -> usize {
+        let mut calls = Calls::new(1, 0);
+        let buffer = [&[0; 4][..], &coefficient.to_le_bytes()].concat();
+        let counts = Counts { a: 1, b: 0, c: 0 };
+        calls.coefficients(Operation::Row, Ok(counts), &buffer, "one term");
+        calls.tally.differences.len()
+    }
+
+    #[test]
+    fn coefficients_out_of_range_are_told() {
+        let greatest = (P as i64 - 1) / 2;
+        for coefficient in [1, -1, greatest, -greatest] {
+            assert_eq!(differences(coefficient), 0, "{coefficient}");
+        }
+        let former = P as i64 - 1;
+        for coefficient in [0, greatest + 1, -greatest - 1, former, i64::MIN, i64::MAX] {
+            assert_eq!(differences(coefficient), 1, "{coefficient}");
         }
     }
 }

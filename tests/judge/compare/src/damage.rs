@@ -178,19 +178,19 @@ fn from_prime(_: &Ground, claim: &mut Claim, random: &mut Random) {
     prime::put(claim, random);
 }
 
-/// The coefficient of a wire in a sum.
+/// The coefficient of a wire in a sum, modulo p.
 fn coefficient(sum: &[Term], wire: usize) -> u64 {
     let mut terms = sum.iter();
     terms
         .find(|term| term.wire.0 as usize == wire)
-        .map_or(0, |term| term.coefficient)
+        .map_or(0, Term::residue)
 }
 
 /// A sum's value without what that wire adds.
 fn rest(sum: &[Term], claim: &Claim, without: usize) -> u64 {
     let others = sum.iter().filter(|term| term.wire.0 as usize != without);
     others.fold(0, |total, term| {
-        let product = field::multiply(term.coefficient, claim.entry(term.wire.0 as usize));
+        let product = field::multiply(term.residue(), claim.entry(term.wire.0 as usize));
         field::add(total, product)
     })
 }
@@ -255,8 +255,8 @@ fn sum_kept(ground: &Ground, claim: &mut Claim, random: &mut Random) {
         let by = random.pick(&[1, P - 1, 2, 1 << 60, any]);
         let (one_wire, other_wire) = (one.wire.0 as usize, other.wire.0 as usize);
         let add = |old: u64, times: u64| field::add(old, field::multiply(by, times));
-        let one_new = add(claim.entry(one_wire), other.coefficient);
-        let other_new = add(claim.entry(other_wire), negative(one.coefficient));
+        let one_new = add(claim.entry(one_wire), other.residue());
+        let other_new = add(claim.entry(other_wire), negative(one.residue()));
         claim.set(one_wire, one_new);
         claim.set(other_wire, other_new);
         claim.note += &format!(

@@ -76,24 +76,25 @@ pub fn set_entry(assignment: &mut [u8], wire: usize, value: u64) {
     assignment[8 * wire..8 * wire + 8].copy_from_slice(&value.to_le_bytes());
 }
 
-/// A sum in whole numbers: a coefficient above p / 2 counts as negative.
-fn whole_sum(sum: &[Term], entries: impl Fn(usize) -> u64) -> i128 {
-    let signed = |c: u64| {
-        if c > P / 2 {
-            i128::from(c) - i128::from(P)
-        } else {
-            i128::from(c)
-        }
-    };
-    let value = |t: &Term| signed(t.coefficient) * i128::from(entries(t.wire.0 as usize));
-    sum.iter().map(value).sum()
+/// A sum in whole numbers, with the coefficients' signs, and then modulo p.
+pub fn whole_sum(sum: &[Term], entries: impl Fn(usize) -> u64) -> i128 {
+    let value = |t: &Term| i128::from(t.coefficient) * i128::from(entries(t.wire.0 as usize));
+    sum.iter()
+        .map(value)
+        .sum::<i128>()
+        .rem_euclid(i128::from(P))
 }
 
 /// Whether A × B - C is a multiple of p.
 pub fn holds(row: Row<'_>, entries: impl Fn(usize) -> u64 + Copy) -> bool {
-    let p = i128::from(P);
-    let [a, b, c] = [row.a, row.b, row.c].map(|sum| whole_sum(sum, entries).rem_euclid(p));
-    (a * b - c) % p == 0
+    let [a, b, c] = [row.a, row.b, row.c].map(|sum| whole_sum(sum, entries));
+    (a * b - c) % i128::from(P) == 0
+}
+
+/// A coefficient that may stand in a term: not 0, and of no more than (p - 1) / 2
+/// without its sign.
+pub fn in_range(term: &Term) -> bool {
+    (1..=(P - 1) / 2).contains(&term.coefficient.unsigned_abs())
 }
 
 /// Whether a row has the wire in one of its sums.
@@ -113,7 +114,7 @@ pub fn lowest_with_wire(table: &RowTable, assignment: &[u8], wire: u32) -> Optio
 }
 
 /// A row as three lists of (wire, coefficient).
-pub type Plain = [Vec<(u32, u64)>; 3];
+pub type Plain = [Vec<(u32, i64)>; 3];
 
 pub fn plain(row: Row<'_>) -> Plain {
     [row.a, row.b, row.c].map(|sum| sum.iter().map(|t| (t.wire.0, t.coefficient)).collect())

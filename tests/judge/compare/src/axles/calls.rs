@@ -75,10 +75,12 @@ impl Calls {
         let empty = self.empty();
         let mut out = Lent::buffer(out_len, &mut self.random);
         let mut must = out.clone();
-        let judged = answers::row(judge(must.slice_mut()));
+        let counts = judge(must.slice_mut());
+        let judged = answers::row(counts);
         let answer = host::axles::row(empty, pair, row, out.slice_mut());
         self.answers(operation, judged, answer, &what);
         self.memory(operation, "buffer", &must, &out, &what);
+        self.coefficients(operation, counts, out.slice(), &what);
         judged
     }
 
