@@ -28,7 +28,7 @@ uint64_t baseline_write(uint64_t lane, uint64_t time, uint64_t vehicle_class, ui
                         size_t plate_len, const uint8_t *blind, size_t blind_len, uint8_t *out, size_t out_len);
 
 /* The rows as a stored sparse matrix. Sum k (A, B, C of row 0, A, B, C of row 1, ..) has the terms from ends[k] to
- * before ends[k + 1]. */
+ * before ends[k + 1]. Coefficients are from 1 to p - 1. */
 struct baseline_rows {
     size_t rows;
     size_t wires;

@@ -1,8 +1,8 @@
 /* Seals a record and checks it, as a C host does: the digest, the assignment, the check, the assignment packed for a disk
- * and unpacked again to the same bytes, and what packing and the check say once an entry of the assignment was changed.
- * Usage: host [TEXT [BITS]]; the record is the text, or its first so many bits. Without a text there are two records, one
- * of whole bytes and a tag that ends inside a byte, and what is said of bytes that do not fit the tag's bits. Builds by
- * examples/run.sh. */
+ * and unpacked again to the same bytes, and what packing and the check say once an entry of the assignment was changed,
+ * with a term of the row that then fails. Usage: host [TEXT [BITS]]; the record is the text, or its first so many bits.
+ * Without a text there are two records, one of whole bytes and a tag that ends inside a byte, and what is said of bytes
+ * that do not fit the tag's bits. Builds by examples/run.sh. */
 
 #include <inttypes.h>
 #include <stdio.h>
@@ -124,7 +124,22 @@ static int name_wires(const struct claim *claim)
     return right;
 }
 
-/* The same wire as the other bit breaks a row; that row by its number. */
+/* A term of a row: the wire, then the coefficient, two's complement. */
+enum { TERM_BYTES = 4 + 8 };
+
+/* For a back end that wants coefficients from 1 to p - 1, p is added to a negative one. */
+static int name_term(const uint8_t term[TERM_BYTES])
+{
+    uint32_t wire;
+    int64_t coefficient;
+    memcpy(&wire, term, sizeof wire);
+    memcpy(&coefficient, term + sizeof wire, sizeof coefficient);
+    uint64_t residue = (uint64_t)coefficient + (coefficient < 0 ? SM3ROWS_PRIME : 0);
+    printf("a term   %" PRId64 " on wire %" PRIu32 ", modulo p %" PRIu64 "\n", coefficient, wire, residue);
+    return residue > 0 && residue < SM3ROWS_PRIME;
+}
+
+/* The same wire as the other bit breaks a row; that row by its number, and the last of its terms in A. */
 static int name_row(const struct claim *claim)
 {
     uint8_t row[SM3ROWS_ROW_BYTES];
@@ -132,9 +147,10 @@ static int name_row(const struct claim *claim)
     uint64_t failed = check(claim);
     printf("damaged  refusal %u, row %" PRIu64 "\n", SM3ROWS_REFUSAL(failed), SM3ROWS_FAILING_ROW(failed));
     uint64_t answer = sm3rows_row(claim->bits, SM3ROWS_FAILING_ROW(failed), row, sizeof row);
+    go_on("row", answer);
     printf("the row  %u terms in A, %u in B, %u in C\n", SM3ROWS_COUNT_A(answer), SM3ROWS_COUNT_B(answer),
            SM3ROWS_COUNT_C(answer));
-    return SM3ROWS_REFUSAL(failed) == 9 && SM3ROWS_REFUSAL(answer) == 0;
+    return SM3ROWS_REFUSAL(failed) == 9 && name_term(row + TERM_BYTES * (SM3ROWS_COUNT_A(answer) - 1));
 }
 
 /* One record through all of it; 1 where each answer is as it should be. */

@@ -132,15 +132,12 @@ static uint64_t row_for(struct bounds bounds, uint64_t number, uint8_t out[SM3RO
 /* A sum of a row on an assignment, whose entries are below p; then `at` is where its terms end. */
 static uint64_t sum(const uint8_t **at, unsigned count, const uint8_t *assignment)
 {
-    unsigned __int128 sum = 0;
+    __int128 sum = 0;
     for (; count > 0; count--, *at += 12) {
-        uint32_t wire;
-        uint64_t coefficient;
-        memcpy(&wire, *at, 4);
-        memcpy(&coefficient, *at + 4, 8);
-        sum = (sum + (unsigned __int128)coefficient * entry(assignment, wire)) % P;
+        struct term here = term(*at);
+        sum = (sum + (__int128)here.coefficient * entry(assignment, here.wire)) % P;
     }
-    return (uint64_t)sum;
+    return (uint64_t)(sum < 0 ? sum + P : sum);
 }
 
 /* Whether an assignment satisfies the row that was handed over with this answer. */

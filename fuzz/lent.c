@@ -114,16 +114,22 @@ uint64_t bit(const uint8_t *bytes, size_t number)
     return bytes[number / 8] >> (7 - number % 8) & 1;
 }
 
+struct term term(const uint8_t *at)
+{
+    struct term term;
+    memcpy(&term.wire, at, 4);
+    memcpy(&term.coefficient, at + 4, 8);
+    return term;
+}
+
 const uint8_t *terms(const uint8_t *at, unsigned count, uint64_t wires)
 {
-    int64_t before = -1;
+    int64_t before = -1, most = P / 2;
     for (unsigned k = 0; k < count; k++, at += 12) {
-        uint32_t wire;
-        uint64_t coefficient;
-        memcpy(&wire, at, 4);
-        memcpy(&coefficient, at + 4, 8);
-        MUST(wire > before && wire < wires && coefficient > 0 && coefficient < P);
-        before = wire;
+        struct term here = term(at);
+        MUST(here.wire > before && here.wire < wires);
+        MUST(here.coefficient != 0 && here.coefficient >= -most && here.coefficient <= most);
+        before = here.wire;
     }
     return at;
 }

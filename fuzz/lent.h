@@ -57,7 +57,16 @@ uint64_t not_below(const uint8_t *assignment, uint64_t wires);
 /* A bit of a record, of a digest or of packed bytes, the highest of a byte first. */
 uint64_t bit(const uint8_t *bytes, size_t number);
 
-/* The terms of one sum of a row, which must have rising wires and coefficients from 1 to p - 1; where they end. */
+/* A term of a row. */
+struct term {
+    uint32_t wire;
+    int64_t coefficient;
+};
+
+struct term term(const uint8_t *at);
+
+/* The terms of one sum of a row, which must have rising wires and coefficients that are not 0 and lie between
+ * -(p - 1) / 2 and (p - 1) / 2; where they end. */
 const uint8_t *terms(const uint8_t *at, unsigned count, uint64_t wires);
 
 #endif

@@ -55,7 +55,7 @@ static unsigned refusal(const uint8_t *bytes, size_t size, uint64_t values[3])
 
 /* ---- What is printed ---- */
 
-/* Whether a field is a decimal number below a bound. */
+/* Whether a field is a decimal number below a bound, without leading zeros. */
 static int printed(const char *field, uint64_t bound, uint64_t *value)
 {
     size_t digits = strspn(field, "0123456789");
@@ -77,18 +77,25 @@ static int part(char *at, char **fields, int count)
     return strchr(at, ',') == NULL;
 }
 
-/* A term: parts A to C, wires that rise in a part, coefficients from 1 to p - 1. The line before it is of the row
- * `before`; answers the row of this one. */
+/* Whether a field is a coefficient: not 0, between -(p - 1) / 2 and (p - 1) / 2, a negative one with a leading `-`. */
+static int printed_signed(const char *field)
+{
+    uint64_t size;
+    return printed(field + (field[0] == '-'), (uint64_t)1 << 60, &size) && size > 0;
+}
+
+/* A term: parts A to C, wires that rise in a part, a coefficient. The line before it is of the row `before`; answers the
+ * row of this one. */
 static uint64_t term(char *text, uint64_t bits, uint64_t before)
 {
     static char sum;
     static uint64_t last;
     char *fields[4];
-    uint64_t row, wire, coefficient;
+    uint64_t row, wire;
     MUST(part(text, fields, 4) && printed(fields[0], UINT64_MAX, &row));
     MUST(strlen(fields[1]) == 1 && fields[1][0] >= 'A' && fields[1][0] <= 'C');
     MUST(printed(fields[2], 513 + 22528 * block_count(bits), &wire));
-    MUST(printed(fields[3], ((uint64_t)1 << 61) - 1, &coefficient) && coefficient > 0);
+    MUST(printed_signed(fields[3]));
     if (row != before)
         MUST(fields[1][0] == 'A');
     else

@@ -94,7 +94,9 @@ extern "C" {
 uint64_t sm3rows_digest(uint64_t bits, const uint8_t *record, size_t record_len, uint8_t *out, size_t out_len);
 
 /* Row number `row` for records of `bits` bits into out: the terms of A, then of B, then of C, 12 bytes each (wire 4,
- * coefficient 8, least byte first). Bytes of out past the terms keep their value. Refusals 2, 3, 4. */
+ * coefficient 8, least byte first). A coefficient is signed, in two's complement, and is read as an int64_t: not 0, and
+ * between -(p - 1) / 2 and (p - 1) / 2. A negative one plus p is the same modulo p. Bytes of out past the terms keep
+ * their value. Refusals 2, 3, 4. */
 uint64_t sm3rows_row(uint64_t bits, uint64_t row, uint8_t *out, size_t out_len);
 
 /* The whole assignment of the record into the first 8 x wires bytes of out: 8 bytes a wire, least byte first, each the
@@ -120,8 +122,8 @@ uint64_t sm3rows_unpack(uint64_t bits, const uint8_t *packed, size_t packed_len,
 
 /* ---- Axles between two bounds: the wires and rows of a record of 504 bits, and behind them 22 wires and 34 rows ---- */
 
-/* Row number `row` for axles between these bounds into out, laid out as by sm3rows_row. Bytes of out past the terms
- * keep their value. Refusals 18, 3, 4. */
+/* Row number `row` for axles between these bounds into out, laid out as by sm3rows_row, coefficients signed too. Bytes of
+ * out past the terms keep their value. Refusals 18, 3, 4. */
 uint64_t sm3rows_axles_row(uint64_t lower, uint64_t upper, uint64_t row, uint8_t *out, size_t out_len);
 
 /* The whole assignment of the record for axles between these bounds into the first 8 x 45,591 bytes of out, laid out

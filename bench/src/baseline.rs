@@ -92,7 +92,8 @@ pub fn write(numbers: [u64; 4], plate: &[u8], blind: &[u8], out: &mut [u8]) -> u
     }
 }
 
-/// The rows as a stored sparse matrix, built once outside the timing.
+/// The rows as a stored sparse matrix, built once outside the timing. Its
+/// coefficients are from 1 to p - 1.
 pub struct Matrix {
     rows: usize,
     wires: usize,
@@ -107,7 +108,7 @@ impl Matrix {
         for (_, row) in table.iter() {
             for sum in [row.a, row.b, row.c] {
                 wire.extend(sum.iter().map(|term| term.wire.0));
-                coefficient.extend(sum.iter().map(|term| term.coefficient));
+                coefficient.extend(sum.iter().map(|term| term.residue()));
                 ends.push(wire.len() as u32);
             }
         }
