@@ -1,7 +1,7 @@
 -- The coefficients of a circuit's rows. A row's residues are from 1 to p - 1, so that each is what its coefficient is modulo p, and so
 -- are those in a buffer that holds the row's terms.
 use mathlib.Core.List.{List}
-use mathlib.Core.Path.{_≡_, _∙_}
+use mathlib.Core.Path.{_∙_}
 use Prim.Native.Nat.{ℕ, _+_, _*_, _<_, _≤_}
 use native.Mathlib.Nat.{mod-eq-of-lt}
 use native.Mathlib.Omega.{arith}
