@@ -1,7 +1,6 @@
 -- The digits, the bound, the bits and 1 for B, each behind the ones before.
 use borrow.Author.Needs.{needs}
 use Rattle.forms.proofs.terms.DifferenceTerms.{difference-filled}
-use Rattle.forms.specs.Rows.{_·_}
 use Rattle.forms.proofs.terms.fill_difference.Statement.{statement}
 use Rattle.forms.proofs.terms.fill_difference.Tie as tie
 
