@@ -203,6 +203,9 @@ pub fn growth(lengths: &[u64], runs: u32) -> Vec<Figure> {
     times.flat_map(figure).collect()
 }
 
+/// The lines of the listing of 8,120 bits: its first, and one a term.
+const LISTED_LINES: usize = 3_089_722;
+
 /// All rows of records of 16 blocks by the program `rows`: lines a second.
 pub fn lines_a_second(program: &Path) -> std::io::Result<f64> {
     let mut most: f64 = 0.0;
@@ -217,6 +220,7 @@ pub fn lines_a_second(program: &Path) -> std::io::Result<f64> {
         drop(stdin);
         let printed = child.wait_with_output()?.stdout;
         let lines = printed.iter().filter(|&&byte| byte == b'\n').count();
+        assert_eq!(lines, LISTED_LINES, "the listing is not whole");
         most = most.max(lines as f64 / begin.elapsed().as_secs_f64());
     }
     Ok(most)
