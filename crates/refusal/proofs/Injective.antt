@@ -10,7 +10,7 @@ use Rattle.refusal.specs.Refusals.{refusalNumber, refusalValues}
 use Rattle.refusal.specs.declared.outcome.Outcome.{Outcome}
 use Rattle.refusal.specs.declared.outcome.Outcome.the-variants.{Done, Refused}
 use Rattle.refusal.specs.declared.outcome.Refusal.{Refusal}
-use Rattle.refusal.specs.declared.outcome.Refusal.the-variants.{LengthAboveLimit, RowOutOfRange, BufferTooShort, DigestNot32, WrongLength, WireZero, DigestWire, Unsatisfied, EntryNotBit, WrongPackedLength, SpareBit, WrongRecordLength, BitAfterRecord, LineNot63, WrongByte, LaneOrAxlesTooLow, BoundsOutOfRange, NotInBand, EntryNotBelowPrime}
+use Rattle.refusal.specs.declared.outcome.Refusal.the-variants.{LengthOutOfRange, RowOutOfRange, BufferTooShort, DigestNot32, WrongLength, WireZero, DigestWire, Unsatisfied, EntryNotBit, WrongPackedLength, SpareBit, WrongRecordLength, BitAfterRecord, LineNot63, WrongByte, LaneOrAxlesTooLow, BoundsOutOfRange, NotInBand, EntryNotBelowPrime, LimitOutOfRange, BlocksAboveLimit}
 
 -- what can be read back is equal where its numbers are
 pub injective : {A : Type 0} (f : A → ℕ) (g : ℕ → A) {a b : A} → g (f a) ≡ a → g (f b) ≡ b → f a ≡ f b → a ≡ b
@@ -23,7 +23,7 @@ apart x y v small e = (omega arith, omega arith)
 -- a refusal by its number and its value
 refusalOfNumber : ℕ → ℕ → Refusal
 refusalOfNumber n k =
-    cond (eqb n 2) LengthAboveLimit
+    cond (eqb n 2) LengthOutOfRange
     (cond (eqb n 3) RowOutOfRange
     (cond (eqb n 4) BufferTooShort
     (cond (eqb n 5) DigestNot32
@@ -40,7 +40,9 @@ refusalOfNumber n k =
     (cond (eqb n 16) (WrongByte (record { 0 = k }))
     (cond (eqb n 17) LaneOrAxlesTooLow
     (cond (eqb n 18) BoundsOutOfRange
-    (cond (eqb n 19) NotInBand (EntryNotBelowPrime (record { 0 = k })))))))))))))))))))
+    (cond (eqb n 19) NotInBand
+    (cond (eqb n 20) (EntryNotBelowPrime (record { 0 = k }))
+    (cond (eqb n 21) LimitOutOfRange BlocksAboveLimit)))))))))))))))))))
 
 refusalBack : ℕ → Refusal
 refusalBack v = refusalOfNumber (v % 256) (v / 256)
@@ -54,7 +56,7 @@ named-back n k v small e =
 
 refusal-back : (r : Refusal) → refusalBack (packed (refusalNumber r) (refusalValues r)) ≡ r
 unfolding refusalBack refusalOfNumber
-refusal-back LengthAboveLimit = refl
+refusal-back LengthOutOfRange = refl
 refusal-back RowOutOfRange = refl
 refusal-back BufferTooShort = refl
 refusal-back DigestNot32 = refl
@@ -77,6 +79,8 @@ refusal-back BoundsOutOfRange = refl
 refusal-back NotInBand = refl
 refusal-back (EntryNotBelowPrime w) =
     named-back 20 (w .0) (packed (refusalNumber (EntryNotBelowPrime w)) (refusalValues (EntryNotBelowPrime w))) (omega arith) (omega arith)
+refusal-back LimitOutOfRange = refl
+refusal-back BlocksAboveLimit = refl
 
 pub refusal-injective : (r s : Refusal)
     → packed (refusalNumber r) (refusalValues r) ≡ packed (refusalNumber s) (refusalValues s) → r ≡ s
@@ -85,7 +89,7 @@ refusal-injective r s =
 
 -- a refusal's low byte is not 0
 pub refused : (r : Refusal) → packed (refusalNumber r) (refusalValues r) % 256 ≡ 0 → ⊥
-refused LengthAboveLimit e = omega arith
+refused LengthOutOfRange e = omega arith
 refused RowOutOfRange e = omega arith
 refused BufferTooShort e = omega arith
 refused DigestNot32 e = omega arith
@@ -104,6 +108,8 @@ refused LaneOrAxlesTooLow e = omega arith
 refused BoundsOutOfRange e = omega arith
 refused NotInBand e = omega arith
 refused (EntryNotBelowPrime w) e = omega arith
+refused LimitOutOfRange e = omega arith
+refused BlocksAboveLimit e = omega arith
 
 pub outcome-injective : (a b : Outcome) → packedOutcome a ≡ packedOutcome b → a ≡ b
 outcome-injective Done Done e = refl

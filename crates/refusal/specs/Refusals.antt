@@ -5,11 +5,11 @@ use Prim.Native.Nat.{ℕ}
 use Rattle.refusal.specs.declared.outcome.Outcome.{Outcome}
 use Rattle.refusal.specs.declared.outcome.Outcome.the-variants.{Done, Refused}
 use Rattle.refusal.specs.declared.outcome.Refusal.{Refusal}
-use Rattle.refusal.specs.declared.outcome.Refusal.the-variants.{LengthAboveLimit, RowOutOfRange, BufferTooShort, DigestNot32, WrongLength, WireZero, DigestWire, Unsatisfied, EntryNotBit, WrongPackedLength, SpareBit, WrongRecordLength, BitAfterRecord, LineNot63, WrongByte, LaneOrAxlesTooLow, BoundsOutOfRange, NotInBand, EntryNotBelowPrime}
+use Rattle.refusal.specs.declared.outcome.Refusal.the-variants.{LengthOutOfRange, RowOutOfRange, BufferTooShort, DigestNot32, WrongLength, WireZero, DigestWire, Unsatisfied, EntryNotBit, WrongPackedLength, SpareBit, WrongRecordLength, BitAfterRecord, LineNot63, WrongByte, LaneOrAxlesTooLow, BoundsOutOfRange, NotInBand, EntryNotBelowPrime, LimitOutOfRange, BlocksAboveLimit}
 
 abbrev pub refusalNumber : Refusal → ℕ
--- "2. The record length is above" the limit, from document 02's request 2 on 8,127 bits
-refusalNumber LengthAboveLimit = 2
+-- "2. The record length is above" 1,015 bytes, from document 02's request 2 on 8,127 bits
+refusalNumber LengthOutOfRange = 2
 -- "3. The row number is not below the row count"
 refusalNumber RowOutOfRange = 3
 -- "4. The buffer to be written is shorter than .."; from document 02 on "any other written buffer shorter than its result"
@@ -46,9 +46,13 @@ refusalNumber BoundsOutOfRange = 18
 refusalNumber NotInBand = 19
 -- document 02, request 6: "20, an entry of p or more"
 refusalNumber (EntryNotBelowPrime w) = 20
+-- document 02, request 8: "21, a limit outside 1 to 16"
+refusalNumber LimitOutOfRange = 21
+-- "22, a length that needs more blocks than the limit"
+refusalNumber BlocksAboveLimit = 22
 
 abbrev pub refusalValues : Refusal → List ℕ
-refusalValues LengthAboveLimit = []
+refusalValues LengthOutOfRange = []
 refusalValues RowOutOfRange = []
 refusalValues BufferTooShort = []
 refusalValues DigestNot32 = []
@@ -71,6 +75,8 @@ refusalValues BoundsOutOfRange = []
 refusalValues NotInBand = []
 -- "lowest wire returned"
 refusalValues (EntryNotBelowPrime w) = w .0 ∷ []
+refusalValues LimitOutOfRange = []
+refusalValues BlocksAboveLimit = []
 
 -- the answer of an operation that hands nothing back: 0 for no refusal
 abbrev pub outcomeNumber : Outcome → ℕ

@@ -9,7 +9,7 @@ use crate::numbers::WireNumber;
 // The refusals that several operations share, in the order of their numbers.
 pub enum Refusal {
     // 2: the record length is above 8,127 bits.
-    LengthAboveLimit,
+    LengthOutOfRange,
     // 3: the row number is not below the row count.
     RowOutOfRange,
     // 4: the buffer to be written is shorter than its result.
@@ -46,6 +46,10 @@ pub enum Refusal {
     NotInBand,
     // 20: the lowest wire whose entry is p or more.
     EntryNotBelowPrime(WireNumber),
+    // 21: the caller's limit is outside 1 to 16 blocks.
+    LimitOutOfRange,
+    // 22: the record length needs more blocks than the caller's limit.
+    BlocksAboveLimit,
 }
 
 // The answer of an operation that hands nothing back: it is done, or it is refused and no lent byte is altered.
@@ -59,7 +63,7 @@ pub fn number_of(refusal: Refusal) -> u64
     ensures { λ r. ⌜ (r ≡ refusalNumber refusal) × (r < 256) ⌝ }
 {
     match refusal {
-        Refusal::LengthAboveLimit => 2,
+        Refusal::LengthOutOfRange => 2,
         Refusal::RowOutOfRange => 3,
         Refusal::BufferTooShort => 4,
         Refusal::DigestNot32 => 5,
@@ -78,5 +82,7 @@ pub fn number_of(refusal: Refusal) -> u64
         Refusal::BoundsOutOfRange => 18,
         Refusal::NotInBand => 19,
         Refusal::EntryNotBelowPrime(_) => 20,
+        Refusal::LimitOutOfRange => 21,
+        Refusal::BlocksAboveLimit => 22,
     }
 }

@@ -12,7 +12,7 @@ fn value_of(refusal: Refusal) -> u64
     ensures { λ r. ⌜ r ≡ above (refusalValues refusal) ⌝ }
 {
     match refusal {
-        Refusal::LengthAboveLimit => 0,
+        Refusal::LengthOutOfRange => 0,
         Refusal::RowOutOfRange => 0,
         Refusal::BufferTooShort => 0,
         Refusal::DigestNot32 => 0,
@@ -31,6 +31,8 @@ fn value_of(refusal: Refusal) -> u64
         Refusal::BoundsOutOfRange => 0,
         Refusal::NotInBand => 0,
         Refusal::EntryNotBelowPrime(wire) => wire.0,
+        Refusal::LimitOutOfRange => 0,
+        Refusal::BlocksAboveLimit => 0,
     }
 }
 

@@ -9,7 +9,8 @@ use borrow.Author.Tests.{ltb-true}
 use lib.Bits.{and-lt, or-lt, xor-lt}
 use lib.Dec.{eqb, lit<, ltb}
 use lib.ListN.{getD}
-use Rattle.sm3.specs.Message.{blocks, chainingValue, message}
+use Rattle.limits.specs.Blocks.{blocks}
+use Rattle.sm3.specs.Message.{chainingValue, message}
 use Rattle.sm3.specs.Sm3.{_⊕_, FF, GG, P0, P1, block, blockWord, choice, constant, dropped, expanded, expansion, extended, majority, mixed, nextWord, pairWord, roundOf, rounds, start, rotatedConstant, xorState}
 use Rattle.sm3.specs.Words.{rotateLeft}
 use Rattle.sm3.specs.declared.state.State.{State}

@@ -20,13 +20,16 @@ use Rattle.encoding.specs.Bits.{bitOfBytes}
 use Rattle.encoding.specs.Bytes.{highestFirst}
 use Rattle.encoding.specs.Packed.{packedLength}
 use Rattle.encoding.specs.Sequence.{tab}
+use Rattle.limits.proofs.Limited.{ours-stand}
+use Rattle.limits.specs.Blocks.{blocks, mostBits}
+use Rattle.limits.specs.Handed.{recordBytesAnswer, handedAnswer}
+use Rattle.limits.specs.Limit.{ourLimit}
 use Rattle.refusal.specs.declared.outcome.Outcome.the-variants.{Refused}
 use Rattle.refusal.specs.declared.outcome.Outcome.{Outcome}
-use Rattle.refusal.specs.declared.outcome.Refusal.the-variants.{LengthAboveLimit}
+use Rattle.refusal.specs.declared.outcome.Refusal.the-variants.{LengthOutOfRange}
 use Rattle.sm3.proofs.message.MessageBits.{message-length}
 use Rattle.sm3.proofs.message.Padding.{IsByte, cutAfter, in-record, length-byte, past-record, record-end}
-use Rattle.sm3.specs.Handed.{handedAnswer}
-use Rattle.sm3.specs.Message.{blocks, bytesOf, chainingValue, digestBytes, digestOf, message, mostBits}
+use Rattle.sm3.specs.Message.{bytesOf, chainingValue, digestBytes, digestOf, message}
 use Rattle.sm3.specs.WholeBytes.{WholeBytes, blocksOfBytes, mostBytes, paddedBytes}
 
 in-range : (L : ℕ) → ltb mostBits (8 * L) ≡ ltb mostBytes L
@@ -141,12 +144,13 @@ module _ (r : List ℕ) where
       fun-ext (λ k. ap (message (8 * L) (bitOfBytes r)) (sym (div-add-mod k 8)) ∙ sym (message-byte (k / 8) (k % 8) (omega arith)))
 
   -- 13 and 14 do not come up
-  pub whole-handed : (next : Outcome) → handedAnswer (8 * L) r next ≡ cond (ltb mostBytes L) (Refused LengthAboveLimit) next
-  unfolding handedAnswer
+  pub whole-handed : (next : Outcome) → handedAnswer ourLimit (8 * L) r next ≡ cond (ltb mostBytes L) (Refused LengthOutOfRange) next
+  unfolding handedAnswer recordBytesAnswer
   whole-handed next =
       let size : length r ≡ packedLength (8 * L) = omega arith in
       let whole : 8 * L % 8 ≡ 0 = omega arith in
-      rw (in-range L, eq-eqb (length r) (packedLength (8 * L)) size, spare-none (8 * L) r whole)
+      ours-stand Outcome Refused (recordBytesAnswer (8 * L) r) (8 * L) next
+      ∙ rw (in-range L, eq-eqb (length r) (packedLength (8 * L)) size, spare-none (8 * L) r whole)
 
 pub whole-bytes : WholeBytes
 unfolding digestBytes digestOf

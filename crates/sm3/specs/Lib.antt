@@ -1,6 +1,6 @@
 pub mod Digest
 pub mod Ended
-pub mod Handed
+pub mod Limited
 pub mod Message
 pub mod Reached
 pub mod Sm3

@@ -1,21 +1,14 @@
 -- The message of a record and its digest (document 01, "SM3 as used" and "The words of demand 3"). A record is n bits; how
--- it is handed over in bytes says specs/Handed.
+-- it is handed over in bytes says `Handed` of the crate limits.
 use mathlib.Core.Bool.{cond}
 use mathlib.Core.List.{List, _++_}
 use Prim.Native.Nat.{ℕ, zero, suc, _+_, _-_, _*_, _/_, _%_, _^_}
 use lib.Dec.{ltb, eqb}
 use Rattle.encoding.specs.Bits.{bitOfBytes}
 use Rattle.encoding.specs.Bytes.{highestFirst}
+use Rattle.limits.specs.Blocks.{blocks}
 use Rattle.sm3.specs.Sm3.{start, block}
 use Rattle.sm3.specs.declared.state.State.{State}
-
--- "The length becomes a bit count from 0 to 8,127 everywhere" (document 02, request 2)
-abbrev pub mostBits : ℕ
-mostBits = 8127
-
--- "blocks are floor((bits + 64) / 512) + 1"
-unfoldable pub blocks : ℕ → ℕ
-blocks n = (n + 64) / 512 + 1
 
 -- "Padding: one bit 1, zeros, then the bit length in 64 bits, highest first": bit k of the message of the n bits r
 unfoldable pub message : ℕ → (ℕ → ℕ) → ℕ → ℕ

@@ -9,10 +9,12 @@ use lib.ListN.{length}
 use Rattle.encoding.specs.Bits.{bitOfBytes}
 use Rattle.encoding.specs.Bytes.{highestFirst}
 use Rattle.encoding.specs.Sequence.{tab}
+use Rattle.limits.specs.Blocks.{blocks, mostBits}
+use Rattle.limits.specs.Limit.{ourLimit}
 use Rattle.refusal.specs.declared.outcome.Outcome.the-variants.{Done, Refused}
-use Rattle.refusal.specs.declared.outcome.Refusal.the-variants.{BufferTooShort, LengthAboveLimit}
+use Rattle.refusal.specs.declared.outcome.Refusal.the-variants.{BufferTooShort, LengthOutOfRange}
 use Rattle.sm3.specs.Digest.{digestAnswer}
-use Rattle.sm3.specs.Message.{blocks, bytesOf, chainingValue, digestBytes, message, mostBits}
+use Rattle.sm3.specs.Message.{bytesOf, chainingValue, digestBytes, message}
 
 -- "Record of L bytes, 0 to 1,015; blocks n = floor((L + 8) / 64) + 1"
 abbrev pub mostBytes : ℕ
@@ -34,7 +36,7 @@ pub record WholeBytes : Type 0 where
   -- the digest is the last result over the blocks of the padded bytes
   pub digest : (r : List ℕ)
       → digestBytes (8 * length r) r ≡ bytesOf (chainingValue (bitOfBytes (paddedBytes r)) (blocksOfBytes (length r)))
-  -- "2. The record length is above 1,015." "4. The buffer to be written is shorter than 32 bytes for a digest"
+  -- with our limit: "2. The record length is above 1,015." "4. The buffer to be written is shorter than 32 bytes for a digest"
   pub answer : (r : List ℕ) (room : ℕ)
-      → digestAnswer (8 * length r) r room
-      ≡ cond (ltb mostBytes (length r)) (Refused LengthAboveLimit) (cond (ltb room 32) (Refused BufferTooShort) Done)
+      → digestAnswer ourLimit (8 * length r) r room
+      ≡ cond (ltb mostBytes (length r)) (Refused LengthOutOfRange) (cond (ltb room 32) (Refused BufferTooShort) Done)

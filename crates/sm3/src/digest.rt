@@ -5,10 +5,10 @@ ghost use Prim.Native.Nat.{_≤_};
 ghost use lib.ListN.{length, drop};
 ghost use Rattle.sm3.specs.Digest.{digestAnswer, digestLeft};
 ghost use Rattle.sm3.specs.Message.{bytesOf};
-use crate::handed::handed;
 use crate::message::hash;
 use crate::state::State;
 use encoding::write::put_word;
+use limits::handed::ask_record;
 use refusal::outcome::Outcome;
 use refusal::outcome::Refusal;
 
@@ -30,12 +30,12 @@ fn put_digest(out: &mut [u8], s: State)
     put_word(out, 28, s.h);
 }
 
-// The digest of a record of at most 8,127 bits, into the first 32 bytes of `out`.
-pub fn digest(bits: u64, bytes: &[u8], out: &mut [u8]) -> Outcome
-    ensures { λ r. ⌜ r ≡ digestAnswer bits (now (bytes .entry)) (length (now (out .entry))) ⌝ }
+// The digest of a record of so many bits, and of no more blocks than the limit, into the first 32 bytes of `out`.
+pub fn digest(limit: u64, bits: u64, bytes: &[u8], out: &mut [u8]) -> Outcome
+    ensures { λ r. ⌜ r ≡ digestAnswer limit bits (now (bytes .entry)) (length (now (out .entry))) ⌝ }
     ensures { λ r. ⌜ now (out .exit) ≡ digestLeft r bits (now (bytes .entry)) (now (out .entry)) ⌝ }
 {
-    let answer = handed(bits, bytes);
+    let answer = ask_record(limit, bits, bytes);
     if let Outcome::Refused(refusal) = answer {
         return Outcome::Refused(refusal);
     }

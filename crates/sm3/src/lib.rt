@@ -3,7 +3,6 @@ pub mod compression;
 pub mod constants;
 pub mod digest;
 pub mod expansion;
-pub mod handed;
 pub mod message;
 pub mod round;
 pub mod rounds;

@@ -2,8 +2,9 @@
 ghost use mathlib.Core.Path.{_≡_};
 ghost use Prim.Native.Nat.{ℕ, _+_, _-_, _*_, _/_, _%_, _<_, _≤_};
 ghost use lib.ListN.{length, getD, set, take};
+ghost use Rattle.limits.specs.Blocks.{blocks, mostBits};
 ghost use Rattle.sm3.specs.Ended.{cutByte, endedByte};
-ghost use Rattle.sm3.specs.Message.{blockBits, blocks, chainingValue, digestOf, message, mostBits};
+ghost use Rattle.sm3.specs.Message.{blockBits, chainingValue, digestOf, message};
 ghost use Rattle.sm3.specs.Sm3.{block, expansion};
 ghost use Rattle.encoding.specs.Bits.{bitOfBytes};
 ghost use Rattle.encoding.specs.Packed.{packedLength};
@@ -13,17 +14,7 @@ use crate::constants::start_state;
 use crate::expansion::first_words;
 use crate::state::State;
 use encoding::read::wide;
-
-// The most bits of a record.
-pub const MOST_BITS: u64 = 8127;
-
-// How many blocks the message of a record of so many bits has.
-pub fn block_count(bits: u64) -> u64
-    requires { ⌜ bits ≤ mostBits ⌝ }
-    ensures { λ r. ⌜ (r ≡ blocks bits) × (1 ≤ r) × (r ≤ 16) ⌝ }
-{
-    (bits + 64) / 512 + 1
-}
+use limits::blocks::block_count;
 
 // The bytes of the record from `at` on, at most 64, with zeros after them; zeros alone where the record ends before.
 fn tail(bytes: &[u8], at: usize) -> [u8; 64]

@@ -3,7 +3,8 @@ use mathlib.Core.Path.{_≡_}
 use Prim.Native.Nat.{ℕ, _-_, _*_, _/_, _%_, _^_, _<_, _≤_}
 use native.Mathlib.Omega.{arith}
 use borrow.Author.Tests.{eq-eqb, le-ltb, lt-ltb, ne-eqb}
-use Rattle.sm3.specs.Message.{blocks, message}
+use Rattle.limits.specs.Blocks.{blocks}
+use Rattle.sm3.specs.Message.{message}
 
 module _ (n : ℕ) where
   pub message-content : (r : ℕ → ℕ) (k : ℕ) → k < n → message n r k ≡ r k

@@ -16,9 +16,10 @@ use Rattle.encoding.proofs.Bits.{bit-of-byte}
 use Rattle.encoding.proofs.Tab.{getD-tab}
 use Rattle.encoding.specs.Bits.{bitOfBytes}
 use Rattle.encoding.specs.Sequence.{tab}
+use Rattle.limits.specs.Blocks.{blocks}
 use Rattle.sm3.proofs.message.MessageBits.{message-content, message-length, message-one, message-zero}
 use Rattle.sm3.specs.Ended.{cutByte}
-use Rattle.sm3.specs.Message.{blockBits, blocks, message}
+use Rattle.sm3.specs.Message.{blockBits, message}
 
 -- a bit of a number's byte is a bit of the number
 byte-of-number : (n m s : ℕ) → s < 8 → n / 2 ^ m % 256 / 2 ^ s % 2 ≡ n / 2 ^ (m + s) % 2

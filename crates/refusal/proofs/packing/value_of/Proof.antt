@@ -64,6 +64,12 @@ enum-told-15 c = search needs
 enum-known-refusal-4 : tie.Need-enum-known-refusal-4
 enum-known-refusal-4 c = search needs
 
+enum-told-16 : tie.Need-enum-told-16
+enum-told-16 c = search needs
+
+enum-told-17 : tie.Need-enum-told-17
+enum-told-17 c = search needs
+
 returns : tie.Need-returns
 returns c = sym (ap (λ r. above (refusalValues r)) (c .enum-told .given .1))
 
@@ -121,6 +127,12 @@ returns-18 c = sym (ap (λ r. above (refusalValues r)) (c .enum-told15 .given .1
 returns-19 : tie.Need-returns-19
 returns-19 c = omega (arith, ap (λ r. above (refusalValues r)) (c .before .refusal4 .given .1))
 
+returns-20 : tie.Need-returns-20
+returns-20 c = sym (ap (λ r. above (refusalValues r)) (c .enum-told16 .given .1))
+
+returns-21 : tie.Need-returns-21
+returns-21 c = sym (ap (λ r. above (refusalValues r)) (c .enum-told17 .given .1))
+
 pub value-of-spec : {M : Type 1} → statement M
 value-of-spec =
     tie.close
@@ -144,6 +156,8 @@ value-of-spec =
     enum-told-14
     enum-told-15
     enum-known-refusal-4
+    enum-told-16
+    enum-told-17
     returns
     returns-2
     returns-3
@@ -162,4 +176,6 @@ value-of-spec =
     returns-16
     returns-17
     returns-18
-    returns-19)
+    returns-19
+    returns-20
+    returns-21)

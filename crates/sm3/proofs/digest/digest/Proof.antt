@@ -5,14 +5,15 @@ use borrow.Author.Needs.{needs}
 use borrow.Author.Tests.{le-ltb, lt-ltb}
 use denote.Ref.{now}
 use lib.ListN.{drop}
-use Rattle.sm3.proofs.handed.Asked.{handed-done, handed-tests}
+use Rattle.limits.proofs.handed.Asked.{handed-done, handed-tests}
+use Rattle.limits.proofs.limit.Decided.{allowed-range}
 use Rattle.sm3.specs.Message.{bytesOf, digestBytes}
 use Rattle.sm3.specs.declared.state.State.{State}
 use Rattle.sm3.proofs.digest.digest.Statement.{statement}
 use Rattle.sm3.proofs.digest.digest.Tie as tie
 
-handed-requires : tie.Need-handed-requires
-handed-requires c κs = search needs
+ask-record-requires : tie.Need-ask-record-requires
+ask-record-requires c κs = search needs
 
 enum-known-answer : tie.Need-enum-known-answer
 enum-known-answer c = search needs
@@ -21,7 +22,7 @@ returns : tie.Need-returns
 returns c =
     let asked = c .before .before .before in
     let a = asked .before .before .before .args in
-    (sym (handed-tests (a .bits) (now (a .bytes)) .stands _ _ (sym (asked .handed .ensures) ∙ c .before .answer .given .1)), refl)
+    (sym (handed-tests (a .bits) (now (a .bytes)) (a .limit) .stands _ _ (sym (asked .ask-record .ensures) ∙ c .before .answer .given .1)), refl)
 
 enum-told : tie.Need-enum-told
 enum-told c = search needs
@@ -31,7 +32,7 @@ returns-2 c =
     let asked = c .before .before .before in
     let a = asked .before .before .before .args in (
       sym
-          (handed-tests (a .bits) (now (a .bytes)) .passed _ (sym (asked .handed .ensures) ∙ c .before .enum-told .given .1)
+          (handed-tests (a .bits) (now (a .bytes)) (a .limit) .passed _ (sym (asked .ask-record .ensures) ∙ c .before .enum-told .given .1)
           ∙ simp (lt-ltb _ _ (c .if1 .taken))),
       refl,
     )
@@ -40,8 +41,8 @@ hash-requires : tie.Need-hash-requires
 hash-requires c κs =
     let asked = c .before .before .before in
     let a = asked .before .before .before .args in
-    let passed = handed-done (a .bits) (now (a .bytes)) .0 (sym (asked .handed .ensures) ∙ c .before .enum-told .given .1) in
-    (passed .0, passed .1 .0)
+    let passed = handed-done (a .bits) (now (a .bytes)) (a .limit) .0 (sym (asked .ask-record .ensures) ∙ c .before .enum-told .given .1) in
+    (allowed-range (passed .0), passed .1 .0)
 
 put-digest-requires : tie.Need-put-digest-requires
 put-digest-requires c κs = search needs
@@ -57,7 +58,7 @@ returns-3 c =
     let asked = room .before .before .before in
     let a = asked .before .before .before .args in (
       sym
-          (handed-tests (a .bits) (now (a .bytes)) .passed _ (sym (asked .handed .ensures) ∙ room .before .enum-told .given .1)
+          (handed-tests (a .bits) (now (a .bytes)) (a .limit) .passed _ (sym (asked .ask-record .ensures) ∙ room .before .enum-told .given .1)
           ∙ simp (le-ltb _ _ (room .if1 .left))),
       c .before .before .put-digest .ensures
           ∙ ap (λ (s : State). bytesOf s ++ drop 32 (now (a .out))) (hashed .hash .ensures),
@@ -67,7 +68,7 @@ pub digest-spec : {M : Type 1} → statement M
 digest-spec =
     tie.close
     (tie.spec
-    handed-requires
+    ask-record-requires
     enum-known-answer
     returns
     enum-told

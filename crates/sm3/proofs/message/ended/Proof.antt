@@ -3,8 +3,8 @@ use mathlib.Core.Path.{_∙_}
 use native.Mathlib.Omega.{arith}
 use borrow.Author.Needs.{needs}
 use denote.Ref.{now}
+use Rattle.limits.specs.Blocks.{blocks}
 use Rattle.sm3.proofs.message.PaddedBlock.{end-cut, past-ended}
-use Rattle.sm3.specs.Message.{blocks}
 use Rattle.sm3.proofs.message.ended.Statement.{statement}
 use Rattle.sm3.proofs.message.ended.Tie as tie
 

@@ -5,7 +5,7 @@ use Prim.Native.Nat.{_+_, _-_, _*_}
 use native.Mathlib.Omega.{arith}
 use borrow.Author.Needs.{needs}
 use denote.Ref.{now}
-use Rattle.sm3.specs.Message.{blocks}
+use Rattle.limits.specs.Blocks.{blocks}
 use Rattle.sm3.proofs.expansion.FirstWords.{expansion-congruent}
 use Rattle.sm3.proofs.message.Padding.{record-bits}
 use Rattle.sm3.proofs.message.message_words.Statement.{statement}

@@ -3,9 +3,9 @@ use mathlib.Core.Path.{_∙_}
 use native.Mathlib.Omega.{arith}
 use borrow.Author.Needs.{needs}
 use denote.Ref.{now}
+use Rattle.limits.specs.Blocks.{blocks}
 use Rattle.sm3.proofs.message.PaddedBlock.{ended-laid, endedBytes, last, length-set, not-last, withLength}
 use Rattle.sm3.proofs.message.Padding.{block-bits}
-use Rattle.sm3.specs.Message.{blocks}
 use Rattle.sm3.proofs.message.padded.Statement.{statement}
 use Rattle.sm3.proofs.message.padded.Tie as tie
 

@@ -1,8 +1,8 @@
 -- The code is the definition.
 use borrow.Author.Needs.{needs}
-use Rattle.sm3.specs.Message.{blocks}
-use Rattle.sm3.proofs.message.block_count.Statement.{statement}
-use Rattle.sm3.proofs.message.block_count.Tie as tie
+use Rattle.limits.proofs.blocks.block_count.Statement.{statement}
+use Rattle.limits.proofs.blocks.block_count.Tie as tie
+use Rattle.limits.specs.Blocks.{blocks}
 
 add-result : tie.Need-add-result
 add-result c = search needs

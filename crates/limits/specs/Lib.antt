@@ -1,0 +1,4 @@
+pub mod Blocks
+pub mod Handed
+pub mod Limit
+pub mod Limited
