@@ -19,7 +19,6 @@ use Rattle.assignment.specs.declared.bounded.Lowest.the-variants.{AllBel
 use Rattle.assignment.specs.declared.bounded.Lowest.{Lowest}
 use Rattle.encoding.proofs.Lowest as failing
 use Rattle.field.specs.Field.{p}
-use Rattle.refusal.proofs.Small.{Small}
 use Rattle.refusal.proofs.Tests.{Before, refused-done}
 use Rattle.refusal.specs.declared.numbers.WireNumber.{WireNumber}
 use Rattle.refusal.specs.declared.outcome.Outcome.the-variants.{Done, Refused}
@@ -120,11 +119,11 @@ module _ (refusal : WireNumber → Refusal) (limit n : ℕ) (a : List ℕ) where
     λ (below, e). failing.lowest-none _ _ next 0 n (λ w l h. lt-ltb (entry a w) limit (below w (omega arith))) ∙ e,
   )
 
-  -- it has room in one number where the refusal of each of the n wires has
-  pub limit-small : (next : Outcome) → ((w : ℕ) → w < n → Small (Refused (refusal (record { 0 = w })))) → Small next
-      → Small (limitAnswer refusal limit n a next)
+  -- what holds of the refusal of each of the n wires and of what follows holds of the answer
+  pub limit-holds : (P : Outcome → Type 0) (next : Outcome) → ((w : ℕ) → w < n → P (Refused (refusal (record { 0 = w })))) → P next
+      → P (limitAnswer refusal limit n a next)
   unfolding limitAnswer
-  limit-small next each small = failing.by-lowest _ _ Small next 0 n (λ _. small) (λ w low. each w (omega (arith, low .below)))
+  limit-holds P next each last = failing.by-lowest _ _ P next 0 n (λ _. last) (λ w low. each w (omega (arith, low .below)))
 
 -- Refusal 20.
 

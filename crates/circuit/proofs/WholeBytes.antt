@@ -28,9 +28,10 @@ use Rattle.encoding.specs.Sequence.{beside, grid}
 use Rattle.forms.specs.Rows.{rowOf}
 use Rattle.forms.specs.declared.form.Form.the-variants.{Bit, Fixed}
 use Rattle.forms.specs.declared.form.Form.{Form}
+use Rattle.limits.specs.Blocks.{blocks}
 use Rattle.sm3.proofs.WholeBytes.{blocks-of-bytes, padded-message}
 use Rattle.sm3.proofs.message.MessageBits.{message-padding}
-use Rattle.sm3.specs.Message.{blocks, message}
+use Rattle.sm3.specs.Message.{message}
 use Rattle.sm3.specs.WholeBytes.{blocksOfBytes, paddedBytes}
 
 wires-of-bytes : (L : ℕ) → wireCount (Record (8 * L)) ≡ wiresOfBytes L

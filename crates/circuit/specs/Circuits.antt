@@ -8,8 +8,8 @@ use Rattle.circuit.specs.declared.message.MessageSpan.{MessageSpan}
 use Rattle.forms.specs.Positions.{one}
 use Rattle.forms.specs.declared.form.Form.the-variants.{Bit}
 use Rattle.forms.specs.declared.form.Form.{Form}
+use Rattle.limits.specs.Blocks.{blocks}
 use Rattle.refusal.specs.declared.numbers.WireNumber.{WireNumber}
-use Rattle.sm3.specs.Message.{blocks}
 
 abbrev pub blockCount : Circuit → ℕ
 blockCount (Record n) = blocks n

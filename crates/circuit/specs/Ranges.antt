@@ -7,7 +7,7 @@ use Rattle.circuit.specs.Circuits.{appendedRows, blockCount}
 use Rattle.circuit.specs.declared.circuits.Circuit.the-variants.{Record, Axles}
 use Rattle.circuit.specs.declared.circuits.Circuit.{Circuit}
 use Rattle.circuit.specs.declared.message.MessageSpan.{MessageSpan}
-use Rattle.sm3.specs.Message.{blocks, mostBits}
+use Rattle.limits.specs.Blocks.{blocks, mostBits}
 
 -- "0 to" 8,127 bits; "with bounds from 2 to 99", the lower no greater than the upper: a circuit that is not refused
 abbrev pub Allowed : Circuit → Type 0

@@ -12,7 +12,7 @@ use Rattle.circuit.specs.Wires.{wireCount}
 use Rattle.circuit.specs.declared.circuits.Circuit.the-variants.{Record}
 use Rattle.encoding.specs.Bits.{bitOfBytes}
 use Rattle.forms.specs.declared.form.Form.the-variants.{Bit, Fixed}
-use Rattle.sm3.specs.Message.{blocks}
+use Rattle.limits.specs.Blocks.{blocks}
 use Rattle.sm3.specs.WholeBytes.{blocksOfBytes, paddedBytes}
 
 -- "Wires in all: 513 + 22,528 × n." "A block has 32,320 rows; in all 512 + 32,320 × n."

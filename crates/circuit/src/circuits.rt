@@ -25,7 +25,7 @@ pub fn block_count(circuit: Circuit) -> u64
     ensures { λ r. ⌜ (r ≡ blockCount circuit) × (0 < r) × (r ≤ mostBlocks) ⌝ }
 {
     match circuit {
-        Circuit::Record { bits } => sm3::message::block_count(bits),
+        Circuit::Record { bits } => limits::blocks::block_count(bits),
         Circuit::Axles { lower: _, upper: _ } => 2,
     }
 }

@@ -1,2 +1,2 @@
 pub mod Refusals
-pub mod Small
+pub mod Answers

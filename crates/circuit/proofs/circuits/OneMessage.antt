@@ -2,7 +2,7 @@
 use Prim.Native.Nat.{ℕ, _<_, _≤_}
 use native.Mathlib.Omega.{arith}
 use Rattle.circuit.specs.Ranges.{OfMessage}
-use Rattle.sm3.specs.Message.{blocks, mostBits}
+use Rattle.limits.specs.Blocks.{blocks, mostBits}
 
 pub one-message : (n i : ℕ) → n ≤ mostBits → i < blocks n → OfMessage (record { bits = n; begin = 0 }) i
 unfolding blocks

@@ -10,7 +10,7 @@ use Rattle.circuit.specs.Wires.{wireCount}
 use Rattle.circuit.specs.declared.circuits.Circuit.the-variants.{Record, Axles}
 use Rattle.circuit.specs.declared.circuits.Circuit.{Circuit}
 use Rattle.encoding.proofs.Sequence.{Each, each-beside, each-grid}
-use Rattle.sm3.specs.Message.{blocks}
+use Rattle.limits.specs.Blocks.{blocks}
 
 pub in-frame : (c m : ℕ) → 0 < c → (k : ℕ) → k < frameRows c m → InFrame c m (placeAt c k)
 unfolding placeAt

@@ -12,7 +12,7 @@ use Rattle.forms.proofs.shape.Apart.{Apart}
 use Rattle.forms.proofs.shape.DifferenceApart.{ApartDifference}
 use Rattle.forms.proofs.shape.WordApart.{difference-apart}
 use Rattle.forms.specs.WordWires.{numberWires}
-use Rattle.sm3.specs.Message.{blocks}
+use Rattle.limits.specs.Blocks.{blocks}
 
 module _ (lower upper : ℕ) (h : Allowed (Axles lower upper)) where
   abbrev wires : ℕ

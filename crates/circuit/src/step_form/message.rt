@@ -7,14 +7,15 @@ ghost use Rattle.circuit.specs.Circuit.{messageBit, messageForm};
 ghost use Rattle.circuit.specs.Ranges.{OfMessage};
 ghost use Rattle.circuit.specs.Wires.{blockFirst};
 ghost use Rattle.forms.specs.Terms.{Fit};
-ghost use Rattle.sm3.specs.Message.{blocks, message, mostBits};
+ghost use Rattle.limits.specs.Blocks.{blocks, mostBits};
+ghost use Rattle.sm3.specs.Message.{message};
 use crate::circuits::Circuit;
 use crate::circuits::content_form;
 use crate::message::MessageSpan;
 use crate::wire::block_first;
 use forms::form::Form;
+use limits::blocks::block_count;
 use refusal::numbers::WireNumber;
-use sm3::message::block_count;
 
 // Bit k of a message of so many bits, past its content.
 pub fn padding_bit(bits: u64, k: u64) -> u64

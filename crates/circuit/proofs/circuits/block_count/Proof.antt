@@ -3,9 +3,9 @@ use mathlib.Core.Path.{refl, subst}
 use native.Mathlib.Omega.{arith}
 use borrow.Author.Needs.{needs}
 use Rattle.circuit.specs.Ranges.{Allowed}
-use Rattle.sm3.specs.Message.{blocks}
 use Rattle.circuit.proofs.circuits.block_count.Statement.{statement}
 use Rattle.circuit.proofs.circuits.block_count.Tie as tie
+use Rattle.limits.specs.Blocks.{blocks}
 
 enum-known-circuit : tie.Need-enum-known-circuit
 enum-known-circuit c = search needs
