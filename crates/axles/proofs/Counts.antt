@@ -4,7 +4,7 @@ use Prim.Native.Nat.{ℕ}
 use Rattle.circuit.specs.Axles.{axleBits}
 use Rattle.circuit.specs.Wires.{wireCount}
 use Rattle.circuit.specs.declared.circuits.Circuit.the-variants.{Axles, Record}
-use Rattle.sm3.specs.Message.{blocks}
+use Rattle.limits.specs.Blocks.{blocks}
 
 pub record-wires : wireCount (Record axleBits) ≡ 45569
 unfolding wireCount blocks

@@ -7,7 +7,7 @@ use mathlib.Core.Path.{_≡_, _∙_, ap, refl, subst, sym}
 use Prim.Native.Nat.{ℕ, _*_, _%_, _<_, _≤_}
 use native.Mathlib.Nat.{zero-add}
 use native.Mathlib.Omega.{arith}
-use borrow.Author.Tests.{eq-eqb, le-ltb}
+use borrow.Author.Tests.{le-ltb}
 use lib.ListN.{length, take}
 use Rattle.assignment.proofs.Entries.{bytes-of-entries, entries-front, entry-of-wire, entry-written, length-entries}
 use Rattle.assignment.specs.Assignment.{entry}
@@ -20,6 +20,7 @@ use Rattle.axles.proofs.exact.Whole.{axle-circuit, wires-apart}
 use Rattle.axles.specs.Band.{InBand}
 use Rattle.axles.specs.Exact.{AxlesExact, IsAccepted}
 use Rattle.axles.specs.Layout.{axleWireOf, numbers}
+use Rattle.axles.proofs.Limited.{partner-allows}
 use Rattle.axles.specs.Produce.{axleAssignmentOf, axlesProduceAnswer, axlesProduceLeft}
 use Rattle.circuit.proofs.axles.Bounds.{bounds-iff}
 use Rattle.circuit.proofs.shape.Shape.{shape}
@@ -32,6 +33,9 @@ use Rattle.encoding.proofs.Bits.{bit-of-bytes-lt}
 use Rattle.encoding.specs.Bits.{bitOfBytes}
 use Rattle.encoding.specs.Bytes.{Bytes}
 use Rattle.forms.proofs.exact.Runs.{Agree}
+use Rattle.limits.proofs.handed.Asked.{handed-passes}
+use Rattle.limits.specs.Handed.{IsRecord}
+use Rattle.limits.specs.Limit.{partnerLimit}
 use Rattle.record.proofs.Demand3.{digest-wires, read-record}
 use Rattle.record.proofs.DigestBits.{length-digest}
 use Rattle.record.proofs.exact.Record.{read-off, readOff}
@@ -39,7 +43,6 @@ use Rattle.record.proofs.exact.WireBits.{beside-bits, judged-wires, wire-lt}
 use Rattle.record.specs.Layout.{wireOf}
 use Rattle.refusal.specs.declared.outcome.Outcome.the-variants.{Done}
 use Rattle.satisfaction.proofs.Acceptance.{Accepts, Passed, judged-entries}
-use Rattle.sm3.specs.Handed.{IsRecord}
 use Rattle.sm3.specs.Message.{digestBytes}
 
 -- the entries of the record's wires
@@ -143,12 +146,8 @@ not-refused : (lower upper : ℕ) (r : List ℕ) (room : ℕ) → boundsInRange 
     → 8 * wireCount (Axles lower upper) ≤ room → axlesProduceAnswer lower upper r room ≡ Done
 unfolding axlesProduceAnswer
 not-refused lower upper r room bounds is band fits =
-    rw (
-      eq-eqb (length r) 63 (is .size),
-      bounds,
-      band-iff lower upper r .1 band,
-      le-ltb room (8 * wireCount (Axles lower upper)) fits,
-    )
+    handed-passes axleBits r partnerLimit _ partner-allows is
+    ∙ rw (bounds, band-iff lower upper r .1 band, le-ltb room (8 * wireCount (Axles lower upper)) fits)
 
 produced-front : (lower upper : ℕ) (r out : List ℕ)
     → take (8 * wireCount (Axles lower upper)) (axlesProduceLeft Done lower upper r out) ≡ axleAssignmentOf lower upper (bitOfBytes r)

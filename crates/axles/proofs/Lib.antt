@@ -4,4 +4,5 @@ pub mod Congruent
 pub mod Counts
 pub mod exact
 pub mod Exactness
+pub mod Limited
 pub mod Unaltered

@@ -21,9 +21,9 @@ use Rattle.circuit.specs.declared.circuits.Circuit.the-variants.{Axles}
 use Rattle.encoding.specs.Bits.{bitOfBytes}
 use Rattle.encoding.specs.Bytes.{Bytes}
 use Rattle.forms.specs.Shape.{Shaped}
+use Rattle.limits.specs.Handed.{IsRecord}
 use Rattle.record.specs.Layout.{recordWire}
 use Rattle.refusal.specs.declared.outcome.Outcome.the-variants.{Done}
-use Rattle.sm3.specs.Handed.{IsRecord}
 use Rattle.sm3.specs.Message.{digestBytes}
 
 abbrev pub IsAccepted : ℕ → ℕ → List ℕ → List ℕ → Type 0

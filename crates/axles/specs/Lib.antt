@@ -3,5 +3,6 @@ pub mod Check
 pub mod Exact
 pub mod Former
 pub mod Layout
+pub mod Limited
 pub mod Produce
 pub mod RowAnswer

@@ -24,13 +24,12 @@ use circuit::axles::bounds_in_range;
 use circuit::circuits::Circuit;
 use circuit::wire::wire_count;
 use encoding::read::wide;
+use limits::handed::ask_record;
+use limits::limit::PARTNER_LIMIT;
 use record::produce::put_assignment;
 use refusal::numbers::WireNumber;
 use refusal::outcome::Outcome;
 use refusal::outcome::Refusal;
-
-// How many bytes a record with axles has.
-const RECORD_BYTES: usize = 63;
 
 // A number on `width` wires from w on, the highest bit first.
 fn put_number(out: &mut [u8], w: WireNumber, width: u64, x: u64)
@@ -70,8 +69,9 @@ pub fn produce(lower: u64, upper: u64, bytes: &[u8], out: &mut [u8]) -> Outcome
     ensures { λ r. ⌜ r ≡ axlesProduceAnswer lower upper (now (bytes .entry)) (length (now (out .entry))) ⌝ }
     ensures { λ r. ⌜ now (out .exit) ≡ axlesProduceLeft r lower upper (now (bytes .entry)) (now (out .entry)) ⌝ }
 {
-    if bytes.len() != RECORD_BYTES {
-        return Outcome::Refused(Refusal::WrongRecordLength);
+    let answer = ask_record(PARTNER_LIMIT, AXLE_BITS, bytes);
+    if let Outcome::Refused(refusal) = answer {
+        return Outcome::Refused(refusal);
     }
     if !bounds_in_range(lower, upper) {
         return Outcome::Refused(Refusal::BoundsOutOfRange);

@@ -19,9 +19,9 @@ use Rattle.claim.specs.declared.answer.Answer.the-variants.{Checked}
 use Rattle.claim.specs.declared.line.Parsed.the-variants.{Claim, Malformed}
 use Rattle.claim.specs.declared.line.Parsed.{Parsed}
 use Rattle.encoding.specs.Packed.{packedLength}
+use Rattle.limits.specs.Blocks.{blocks, mostBits}
 use Rattle.packing.proofs.Answers.{check-length, check-range}
 use Rattle.packing.specs.PackedCheck.{packedCheckAnswer}
-use Rattle.sm3.specs.Message.{blocks, mostBits}
 use Rattle.text.proofs.AfterField.{length-field}
 use Rattle.text.specs.Text.{comma}
 

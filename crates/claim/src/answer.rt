@@ -9,6 +9,7 @@ use crate::line::Parsed;
 use crate::line::parse;
 use circuit::circuits::Circuit;
 use circuit::wire::wire_count;
+use limits::limit::OUR_LIMIT;
 use packing::unpack::unpack;
 use record::check::check;
 use refusal::outcome::Outcome;
@@ -30,12 +31,12 @@ fn check_packed(bits: u64, digest: &[u8], packed: &[u8], room: &mut [u8]) -> Out
     requires { ⌜ length (now room) ≡ 2887688 ⌝ }
     ensures { λ r. ⌜ r ≡ packedCheckAnswer bits (now (digest .entry)) (now (packed .entry)) ⌝ }
 {
-    let answer = unpack(bits, packed, room);
+    let answer = unpack(OUR_LIMIT, bits, packed, room);
     if let Outcome::Refused(refusal) = answer {
         return Outcome::Refused(refusal);
     }
     let end = (8 * wire_count(Circuit::Record { bits })) as usize;
-    check(bits, digest, &room[..end])
+    check(OUR_LIMIT, bits, digest, &room[..end])
 }
 
 // The answer to the bytes of standard input. `room` is room for the longest assignment.

@@ -1,11 +1,13 @@
 -- The worked figures that document 01 marks P, one table: what the definitions give, beside the paper's figure. Lengths are in
 -- bits, the unit that document 02's request 2 gives every figure. The definitions are the ones that the contracts cite.
 use mathlib.Core.List.{List, [], _∷_, _++_}
-use Prim.Native.Nat.{ℕ, _-_, _*_, _^_}
+use Prim.Native.Nat.{ℕ, _+_, _-_, _*_, _^_}
 use lib.IntN.{pos}
 use lib.ListN.{getD}
 use Rattle.assignment.specs.BelowPrime.{belowPrimeAnswer}
 use Rattle.circuit.specs.declared.circuits.Circuit.the-variants.{Axles, Record}
+use Rattle.limits.specs.Blocks.{blocks}
+use Rattle.limits.specs.Limit.{ourLimit, partnerLimit}
 use Rattle.record.specs.Check.{checkAnswer}
 use Rattle.record.specs.Produce.{produceAnswer}
 use Rattle.circuit.specs.Wires.{wireCount}
@@ -22,7 +24,6 @@ use Rattle.refusal.specs.Refusals.{outcomeNumber, outcomeValues}
 use Rattle.refusal.specs.declared.outcome.Outcome.the-variants.{Done}
 use Rattle.refusal.specs.declared.outcome.Outcome.{Outcome}
 use Rattle.sm3.specs.Digest.{digestAnswer}
-use Rattle.sm3.specs.Message.{blocks}
 use Rattle.sm3.specs.Sm3.{P0, P1, rotatedConstant}
 use Rattle.text.specs.Text.{ascii}
 
@@ -58,18 +59,34 @@ table =
     ∷ (requestNumber (requestOf Length (ascii "8127,0,0\n")) is 0)
     -- "L 1,016 is refusal 2": 8,128 bits, of every operation, the digest, a row, the assignment and the check, and of the program's
     -- line
-    ∷ (outcomeNumber (digestAnswer 8128 (leastFirst 1016 0) 32) is 2)
-    ∷ (rowNumber (rowAnswer 8128 0 rowBytes) is 2)
-    ∷ (outcomeNumber (produceAnswer 8128 (leastFirst 1016 0) (8 * wireCount (Record 8128))) is 2)
-    ∷ (outcomeNumber (checkAnswer 8128 (leastFirst 32 0) []) is 2)
+    ∷ (outcomeNumber (digestAnswer ourLimit 8128 (leastFirst 1016 0) 32) is 2)
+    ∷ (rowNumber (rowAnswer ourLimit 8128 0 rowBytes) is 2)
+    ∷ (outcomeNumber (produceAnswer ourLimit 8128 (leastFirst 1016 0) (8 * wireCount (Record 8128))) is 2)
+    ∷ (outcomeNumber (checkAnswer ourLimit 8128 (leastFirst 32 0) []) is 2)
     ∷ (requestNumber (requestOf Length (ascii "8128,0,0\n")) is 2)
     -- "13, the record's bytes are not the bits over 8 rounded up"; "14, a bit after the last record bit is set": 37 bits have 5
     -- bytes, and the three low bits of the last are spare
     ∷ (packedLength 37 is 5)
-    ∷ (outcomeNumber (digestAnswer 37 (leastFirst 4 0) 0) is 13)
-    ∷ (outcomeNumber (digestAnswer 37 (leastFirst 5 (2 ^ 32)) 0) is 14)
-    ∷ (outcomeNumber (digestAnswer 37 (leastFirst 5 (8 * 2 ^ 32)) 0) is 4)
-    ∷ (outcomeNumber (digestAnswer 37 (leastFirst 5 (8 * 2 ^ 32)) 32) is 0)
+    ∷ (outcomeNumber (digestAnswer ourLimit 37 (leastFirst 4 0) 0) is 13)
+    ∷ (outcomeNumber (digestAnswer ourLimit 37 (leastFirst 5 (2 ^ 32)) 0) is 14)
+    ∷ (outcomeNumber (digestAnswer ourLimit 37 (leastFirst 5 (8 * 2 ^ 32)) 0) is 4)
+    ∷ (outcomeNumber (digestAnswer ourLimit 37 (leastFirst 5 (8 * 2 ^ 32)) 32) is 0)
+    -- document 02, request 8: "21, a limit outside 1 to 16, before 2"
+    ∷ (outcomeNumber (digestAnswer 0 8128 (leastFirst 1016 0) 32) is 21)
+    ∷ (outcomeNumber (digestAnswer 17 0 [] 32) is 21)
+    ∷ (rowNumber (rowAnswer (2 ^ 32 + 2) 0 0 rowBytes) is 21)
+    -- "22, a length that needs more blocks than the limit, directly after 14": 448 bits need two blocks, 960 three
+    ∷ (outcomeNumber (digestAnswer 1 447 (leastFirst 56 0) 32) is 0)
+    ∷ (outcomeNumber (digestAnswer 1 448 (leastFirst 56 0) 32) is 22)
+    ∷ (outcomeNumber (digestAnswer partnerLimit 959 (leastFirst 120 0) 32) is 0)
+    ∷ (outcomeNumber (digestAnswer partnerLimit 960 (leastFirst 120 0) 0) is 22)
+    ∷ (outcomeNumber (digestAnswer partnerLimit 960 (leastFirst 119 0) 0) is 13)
+    ∷ (outcomeNumber (digestAnswer partnerLimit 961 (leastFirst 121 (2 ^ 960)) 0) is 14)
+    ∷ (outcomeNumber (digestAnswer 1 8128 (leastFirst 1016 0) 32) is 2)
+    ∷ (rowNumber (rowAnswer partnerLimit 959 65152 rowBytes) is 3)
+    ∷ (rowNumber (rowAnswer partnerLimit 960 65152 0) is 22)
+    ∷ (outcomeNumber (checkAnswer partnerLimit 959 [] []) is 5)
+    ∷ (outcomeNumber (checkAnswer partnerLimit 960 [] []) is 22)
     -- "L 0 has 23,041 wires and 32,832 rows; L 1,015 has 360,961 and 517,632"
     ∷ (wireCount (Record 0) is 23041)
     ∷ (rowCount (Record 0) is 32832)

@@ -16,13 +16,14 @@
 // at 0 bits is refusal 3. Document 02's request 7 gives p - 1 as -1.
 ghost use Prim.Native.Nat.{_+_, _≤_};
 ghost use Rattle.circuit.specs.GivenRow.{rowBytes};
-ghost use Rattle.sm3.specs.Message.{mostBits};
+ghost use Rattle.limits.specs.Blocks.{mostBits};
 use circuit::given_row::ROW_BYTES;
 use circuit::given_row::RowAnswer;
 use encoding::packed::packed_length;
 use encoding::read::eight_bytes;
 use encoding::read::four_bytes;
 use libc::STDOUT_FILENO;
+use limits::limit::OUR_LIMIT;
 use record::row::row;
 use refusal::numbers::RowNumber;
 use refusal::outcome::number_of;
@@ -50,7 +51,7 @@ fn print_digest(digest: &[u8; 32]) {
 // The digest of a record of so many bits, printed.
 fn show(bits: u64, bytes: &[u8]) {
     let mut out = [0u8; 32];
-    sm3::digest::digest(bits, bytes, &mut out);
+    sm3::digest::digest(OUR_LIMIT, bits, bytes, &mut out);
     print_digest(&out);
 }
 
@@ -101,7 +102,7 @@ fn print_row(a: u64, b: u64, c: u64, bytes: &[u8; ROW_BYTES]) {
 // The row of a number for a record of so many bits: the refusal's number, or 0, the counts and three terms.
 fn show_row(bits: u64, number: u64) {
     let mut out = [0u8; ROW_BYTES];
-    let answer = row(bits, RowNumber(number), &mut out);
+    let answer = row(OUR_LIMIT, bits, RowNumber(number), &mut out);
     match answer {
         RowAnswer::Given { a, b, c } => print_row(a, b, c, &out),
         RowAnswer::Refused(refusal) => print_number(number_of(refusal)),

@@ -13,10 +13,11 @@ use Rattle.circuit.specs.Places.{rowCount}
 use Rattle.circuit.specs.Ranges.{Allowed}
 use Rattle.circuit.specs.declared.circuits.Circuit.the-variants.{Axles, Record}
 use Rattle.circuit.specs.declared.circuits.Circuit.{Circuit}
+use Rattle.limits.proofs.limit.Decided.{allowed-range, limited-holds}
+use Rattle.limits.specs.Limit.{ourLimit}
 use Rattle.refusal.proofs.Small.{tested}
 use Rattle.refusal.specs.Refusals.{refusalValues}
 use Rattle.refusal.specs.declared.outcome.Refusal.{Refusal}
-use Rattle.sm3.specs.Message.{mostBits}
 use Rattle.listing.specs.AxleLine.{parseAxlesOf}
 use Rattle.listing.specs.Line.{parseOf}
 use Rattle.listing.specs.Progress.{Possible}
@@ -50,7 +51,8 @@ module _ (P : Request → Type 0) (bad : P BadLine) (refused : (r : Refusal) →
   unfolding checked
   each-asked Malformed = bad
   each-asked (Numbers n f h) =
-      tested P (ltb mostBits n) (refused _ refl) (λ e. each-within (Record n) f h (ltb-false mostBits n e))
+      limited-holds P Refused (λ x. x) _ ourLimit n (λ x holds. holds) (refused _ refl) (refused _ refl) (refused _ refl)
+      (λ allowed. each-within (Record n) f h (allowed-range allowed))
 
   each-asked-axles : (r : ParsedAxles) → P (askedAxles r)
   unfolding checkedAxles

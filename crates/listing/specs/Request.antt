@@ -7,9 +7,9 @@ use Rattle.circuit.specs.Axles.{boundsInRange}
 use Rattle.circuit.specs.Places.{rowCount}
 use Rattle.circuit.specs.declared.circuits.Circuit.the-variants.{Axles, Record}
 use Rattle.circuit.specs.declared.circuits.Circuit.{Circuit}
+use Rattle.limits.specs.Limit.{allowance, limited, ourLimit}
 use Rattle.refusal.specs.Refusals.{refusalNumber, refusalValues}
-use Rattle.refusal.specs.declared.outcome.Refusal.the-variants.{BoundsOutOfRange, LengthAboveLimit, RowOutOfRange}
-use Rattle.sm3.specs.Message.{mostBits}
+use Rattle.refusal.specs.declared.outcome.Refusal.the-variants.{BoundsOutOfRange, RowOutOfRange}
 use Rattle.listing.specs.AxleLine.{parseAxlesOf}
 use Rattle.listing.specs.Line.{parseOf}
 use Rattle.listing.specs.declared.axle_line.ParsedAxles.{ParsedAxles}
@@ -25,9 +25,10 @@ use Rattle.listing.specs.declared.request.Request.the-variants.{BadLine,
 unfoldable pub within : Circuit → ℕ → ℕ → Request
 within c f h = cond (ltb (rowCount c) (f + h)) (Refused RowOutOfRange) (Rows c (record { 0 = f }) h)
 
--- "2. The record length is above" 8,127: of a record of n bits
+-- "2. The record length is above" 8,127: of a record of n bits. "`rows` and the program for packed assignments use sixteen" blocks (document 02,
+-- request 8)
 unfoldable pub checked : ℕ → ℕ → ℕ → Request
-checked n f h = cond (ltb mostBits n) (Refused LengthAboveLimit) (within (Record n) f h)
+checked n f h = limited Refused (λ answer. answer) (allowance ourLimit n) (within (Record n) f h)
 
 -- document 02, request 5: "18, a bound outside 2 to 99 or the lower above the upper": of the circuit of axles from l to u
 unfoldable pub checkedAxles : ℕ → ℕ → ℕ → ℕ → Request

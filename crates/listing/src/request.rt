@@ -13,10 +13,12 @@ use crate::line::parse;
 use circuit::axles::bounds_in_range;
 use circuit::circuits::Circuit;
 use circuit::place::row_count;
+use limits::limit::OUR_LIMIT;
+use limits::limit::ask_length;
 use refusal::numbers::RowNumber;
+use refusal::outcome::Outcome;
 use refusal::outcome::Refusal;
 use refusal::outcome::number_of;
-use sm3::message::MOST_BITS;
 
 // What stands at the front of a line, before the first row and how many.
 pub enum Front {
@@ -67,8 +69,9 @@ fn record_request(line: &[u8]) -> Request
     else {
         return Request::BadLine;
     };
-    if MOST_BITS < leading {
-        return Request::Refused(Refusal::LengthAboveLimit);
+    let allowed = ask_length(OUR_LIMIT, leading);
+    if let Outcome::Refused(refusal) = allowed {
+        return Request::Refused(refusal);
     }
     within(Circuit::Record { bits: leading }, first, many)
 }

@@ -4,6 +4,7 @@ ghost use mathlib.Core.Path.{_≡_};
 ghost use Prim.Native.Nat.{_<_, _≤_};
 ghost use lib.ListN.{length};
 use claim::program::print_answer;
+use limits::limit::OUR_LIMIT;
 use packing::pack::pack;
 use record::produce::produce;
 
@@ -42,8 +43,8 @@ fn put_claim(input: &mut [u8])
         b"24,66c7f0f462eeedd9d1f2d46bdc10e4e24167c4875cf2f7a2297da02b8f4ba8e0\n",
     );
     let mut assignment = space();
-    produce(24, b"abc", &mut assignment);
-    pack(24, &assignment, &mut input[LINE..CLAIM]);
+    produce(OUR_LIMIT, 24, b"abc", &mut assignment);
+    pack(OUR_LIMIT, 24, &assignment, &mut input[LINE..CLAIM]);
 }
 
 // Prints the answer to the first n bytes with some bits of byte `at` turned over. The byte is then as it was.

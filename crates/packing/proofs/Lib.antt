@@ -1,4 +1,5 @@
 pub mod Answers
+pub mod Limited
 pub mod PackedExact
 pub mod RoundTrip
 pub mod WordBytes

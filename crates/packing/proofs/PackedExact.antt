@@ -15,6 +15,10 @@ use Rattle.encoding.proofs.PackedBits.{length-packed, packed-known, spare-of-pa
 use Rattle.encoding.specs.Bits.{bitOfBytes}
 use Rattle.encoding.specs.Bytes.{Bytes}
 use Rattle.encoding.specs.Packed.{packedBytes, spareBits}
+use Rattle.limits.proofs.Limited.{ours-allow}
+use Rattle.limits.specs.Blocks.{mostBits}
+use Rattle.limits.specs.Handed.{IsRecord}
+use Rattle.limits.specs.Limit.{ourLimit}
 use Rattle.packing.proofs.Answers.{check-done}
 use Rattle.packing.proofs.RoundTrip.{entry-of-unpacked, unpacked-packed}
 use Rattle.packing.specs.Packed.{unpackedBytes}
@@ -25,8 +29,7 @@ use Rattle.record.specs.Check.{checkAnswer}
 use Rattle.record.specs.Layout.{wireOf}
 use Rattle.record.specs.Produce.{assignmentOf}
 use Rattle.refusal.specs.declared.outcome.Outcome.the-variants.{Done}
-use Rattle.sm3.specs.Handed.{IsRecord}
-use Rattle.sm3.specs.Message.{digestBytes, mostBits}
+use Rattle.sm3.specs.Message.{digestBytes}
 
 unpacked-bytes : (wires : ℕ) (p : List ℕ) → Bytes (unpackedBytes wires p)
 unfolding unpackedBytes
@@ -46,9 +49,9 @@ module _ (n : ℕ) (d p : List ℕ) (range : n ≤ mostBits) (digest : Bytes d) 
   abbrev u : List ℕ
   u = unpackedBytes wires p
 
-  entries-exact : (checkAnswer n d u ≡ Done)
+  entries-exact : (checkAnswer ourLimit n d u ≡ Done)
       ↔ ((r : List ℕ) × IsRecord n r × (digestBytes n r ≡ d) × (u ≡ assignmentOf n (bitOfBytes r)))
-  entries-exact = demand3 .exact n d u range digest (unpacked-bytes wires p)
+  entries-exact = demand3 .exact ourLimit n d u (ours-allow n range) digest (unpacked-bytes wires p)
 
   exact : (packedCheckAnswer n d p ≡ Done)
       ↔ ((r : List ℕ) × IsRecord n r × (digestBytes n r ≡ d) × (p ≡ packedBytes wires (wiresOf n r)))
@@ -66,7 +69,7 @@ module _ (n : ℕ) (d p : List ℕ) (range : n ≤ mostBits) (digest : Bytes d) 
         ),
     λ (r, is, same, packed).
         check-done n d p .1 (
-          range,
+          ours-allow n range,
           (
             ap length packed ∙ length-packed wires (wiresOf n r),
             (

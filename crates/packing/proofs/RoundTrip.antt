@@ -41,54 +41,54 @@ pub unpacked-packed : (wires : ℕ) (s : ℕ → ℕ) → ((w : ℕ) → w < wir
 unfolding unpackedBytes
 unpacked-packed wires s bits = entries-congruent wires _ s (packed-bit wires s bits)
 
-module _ (n : ℕ) (a out : List ℕ) (bytes : Bytes a) (done : packAnswer n a (length out) ≡ Done) where
+module _ (l n : ℕ) (a out : List ℕ) (bytes : Bytes a) (done : packAnswer l n a (length out) ≡ Done) where
   unpack-of-packed : (room : List ℕ) → 8 * wireCount (Record n) ≤ length room
-      → (unpackAnswer n (packs n a out) (length room) ≡ Done) × (unpacks n (packs n a out) room ≡ a)
+      → (unpackAnswer l n (packs l n a out) (length room) ≡ Done) × (unpacks l n (packs l n a out) room ≡ a)
   unpack-of-packed room fits =
       let wires : ℕ = wireCount (Record n) in
-      let asked = pack-done n a (length out) .0 done in
+      let asked = pack-done l n a (length out) .0 done in
       let bits = asked .1 .1 .1 in
-      let whole : unpackAnswer n (packedBytes wires (entry a)) (length room) ≡ Done =
-      unpack-done n (packedBytes wires (entry a)) (length room) .1
+      let whole : unpackAnswer l n (packedBytes wires (entry a)) (length room) ≡ Done =
+      unpack-done l n (packedBytes wires (entry a)) (length room) .1
       (asked .0, (fits, (length-packed wires (entry a), (spare-of-packed wires (entry a) bits, refl)))) in
-      subst (λ q. (unpackAnswer n q (length room) ≡ Done) × (unpacks n q room ≡ a)) (sym (packs-done n a out done)) (
+      subst (λ q. (unpackAnswer l n q (length room) ≡ Done) × (unpacks l n q room ≡ a)) (sym (packs-done l n a out done)) (
         whole,
-        unpacks-done n (packedBytes wires (entry a)) room whole
+        unpacks-done l n (packedBytes wires (entry a)) room whole
             ∙ unpacked-packed wires (entry a) bits
             ∙ sym (bytes-of-entries wires (entry a) a bytes (asked .1 .1 .0) (λ w l. refl)),
       )
 
-module _ (n : ℕ) (q out : List ℕ) (bytes : Bytes q) (done : unpackAnswer n q (length out) ≡ Done) where
+module _ (l n : ℕ) (q out : List ℕ) (bytes : Bytes q) (done : unpackAnswer l n q (length out) ≡ Done) where
   pack-of-unpacked : (room : List ℕ) → packedLength (wireCount (Record n)) ≤ length room
-      → (packAnswer n (unpacks n q out) (length room) ≡ Done) × (packs n (unpacks n q out) room ≡ q)
+      → (packAnswer l n (unpacks l n q out) (length room) ≡ Done) × (packs l n (unpacks l n q out) room ≡ q)
   pack-of-unpacked room fits =
       let wires : ℕ = wireCount (Record n) in
       let u = unpackedBytes wires q in
-      let asked = unpack-done n q (length out) .0 done in
+      let asked = unpack-done l n q (length out) .0 done in
       let bits : (w : ℕ) → w < wires → entry u w < 2 =
       λ w l. omega (arith, entry-of-unpacked wires q w l, bit-of-bytes-lt q w) in
-      let whole : packAnswer n u (length room) ≡ Done =
-      pack-done n u (length room) .1 (asked .0, (fits, (length-unpacked wires q, bits))) in
-      subst (λ b. (packAnswer n b (length room) ≡ Done) × (packs n b room ≡ q)) (sym (unpacks-done n q out done)) (
+      let whole : packAnswer l n u (length room) ≡ Done =
+      pack-done l n u (length room) .1 (asked .0, (fits, (length-unpacked wires q, bits))) in
+      subst (λ b. (packAnswer l n b (length room) ≡ Done) × (packs l n b room ≡ q)) (sym (unpacks-done l n q out done)) (
         whole,
-        packs-done n u room whole
+        packs-done l n u room whole
             ∙ packed-known wires (entry u) bits q bytes (asked .1 .1 .0) (asked .1 .1 .1 .0)
             (λ w l. sym (entry-of-unpacked wires q w l)),
       )
 
-accepted-packs : (n : ℕ) (d a : List ℕ) (room : ℕ) → IsAccepted n d a → packedLength (wireCount (Record n)) ≤ room
-    → packAnswer n a room ≡ Done
-accepted-packs n d a room accepted fits =
-    let accepts = accepted-iff n d a .0 accepted in
+accepted-packs : (l n : ℕ) (d a : List ℕ) (room : ℕ) → IsAccepted l n d a → packedLength (wireCount (Record n)) ≤ room
+    → packAnswer l n a room ≡ Done
+accepted-packs l n d a room accepted fits =
+    let accepts = accepted-iff l n d a .0 accepted in
     let passed = accepts .1 .passed in
-    pack-done n a room .1 (
+    pack-done l n a room .1 (
       accepts .0,
       (
         fits,
         (
           passed .assignment-length,
-          λ w l.
-              subst (λ x. x < 2) (sym (accepted-wires n d a accepted w l)) (wire-lt n _ (λ k h. omega arith) w),
+          λ w below.
+              subst (λ x. x < 2) (sym (accepted-wires l n d a accepted w below)) (wire-lt n _ (λ k h. omega arith) w),
         ),
       ),
     )
@@ -96,7 +96,7 @@ accepted-packs n d a room accepted fits =
 pub round-trip : RoundTrip
 round-trip =
     record {
-      unpacked = λ n a out room bytes done fits. unpack-of-packed n a out bytes done room fits;
-      packed = λ n q out room bytes done fits. pack-of-unpacked n q out bytes done room fits;
+      unpacked = λ l n a out room bytes done fits. unpack-of-packed l n a out bytes done room fits;
+      packed = λ l n q out room bytes done fits. pack-of-unpacked l n q out bytes done room fits;
       accepted = accepted-packs;
     }

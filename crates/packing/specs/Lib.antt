@@ -1,3 +1,4 @@
+pub mod Limited
 pub mod Pack
 pub mod Packed
 pub mod PackedCheck

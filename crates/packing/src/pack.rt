@@ -16,11 +16,11 @@ use circuit::circuits::Circuit;
 use circuit::wire::wire_count;
 use encoding::packed::packed_length;
 use encoding::write::put_word;
+use limits::limit::ask_length;
 use refusal::numbers::WireNumber;
 use refusal::outcome::Outcome;
 use refusal::outcome::Refusal;
 use satisfaction::word_read::number_from;
-use sm3::message::MOST_BITS;
 
 // Refusal 20, or else 10, for the lowest of the first n entries that calls for it, if there is one. Bits are below the prime, so the
 // entries of an honest assignment are read through only once.
@@ -63,12 +63,13 @@ fn put_packed(assignment: &[u8], wires: u64, out: &mut [u8])
 }
 
 // An assignment for records of so many bits, packed into the front of `out`.
-pub fn pack(bits: u64, assignment: &[u8], out: &mut [u8]) -> Outcome
-    ensures { λ r. ⌜ r ≡ packAnswer bits (now (assignment .entry)) (length (now (out .entry))) ⌝ }
+pub fn pack(limit: u64, bits: u64, assignment: &[u8], out: &mut [u8]) -> Outcome
+    ensures { λ r. ⌜ r ≡ packAnswer limit bits (now (assignment .entry)) (length (now (out .entry))) ⌝ }
     ensures { λ r. ⌜ now (out .exit) ≡ packLeft r bits (now (assignment .entry)) (now (out .entry)) ⌝ }
 {
-    if MOST_BITS < bits {
-        return Outcome::Refused(Refusal::LengthAboveLimit);
+    let allowed = ask_length(limit, bits);
+    if let Outcome::Refused(refusal) = allowed {
+        return Outcome::Refused(refusal);
     }
     let wires = wire_count(Circuit::Record { bits });
     let room = packed_length(wires);

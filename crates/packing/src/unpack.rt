@@ -13,10 +13,10 @@ use encoding::packed::packed_length;
 use encoding::packed::spare_bits;
 use encoding::read::bit_at;
 use encoding::read::word_at;
+use limits::limit::ask_length;
 use refusal::numbers::WireNumber;
 use refusal::outcome::Outcome;
 use refusal::outcome::Refusal;
-use sm3::message::MOST_BITS;
 
 // The first entries of packed bytes: in each turn a word of their first half and one of the second, since two places of memory
 // are written sooner than one.
@@ -33,12 +33,13 @@ fn put_entries(packed: &[u8], half: usize, out: &mut [u8])
 }
 
 // The entries of packed bytes for records of so many bits, into the front of `out`.
-pub fn unpack(bits: u64, packed: &[u8], out: &mut [u8]) -> Outcome
-    ensures { λ r. ⌜ r ≡ unpackAnswer bits (now (packed .entry)) (length (now (out .entry))) ⌝ }
+pub fn unpack(limit: u64, bits: u64, packed: &[u8], out: &mut [u8]) -> Outcome
+    ensures { λ r. ⌜ r ≡ unpackAnswer limit bits (now (packed .entry)) (length (now (out .entry))) ⌝ }
     ensures { λ r. ⌜ now (out .exit) ≡ unpackLeft r bits (now (packed .entry)) (now (out .entry)) ⌝ }
 {
-    if MOST_BITS < bits {
-        return Outcome::Refused(Refusal::LengthAboveLimit);
+    let allowed = ask_length(limit, bits);
+    if let Outcome::Refused(refusal) = allowed {
+        return Outcome::Refused(refusal);
     }
     let wires = wire_count(Circuit::Record { bits });
     if (out.len() as u64) < 8 * wires {

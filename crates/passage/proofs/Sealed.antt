@@ -8,13 +8,13 @@ use borrow.Author.Tests.{ltb-false}
 use lib.Dec.{ltb}
 use lib.ListN.{drop, length, take}
 use lib.Seq.{take-at}
-use native.Mathlib.Omega.{arith}
 use Rattle.circuit.specs.Wires.{wireCount}
 use Rattle.circuit.specs.declared.circuits.Circuit.the-variants.{Record}
 use Rattle.encoding.specs.Bytes.{Bytes}
+use Rattle.limits.specs.Limit.{partnerLimit}
 use Rattle.passage.proofs.Answers.{line-right}
 use Rattle.passage.proofs.Next.{neither, next-done}
-use Rattle.passage.proofs.Sealing.{line-produced, line-record}
+use Rattle.passage.proofs.Sealing.{line-allowed, line-produced, line-record}
 use Rattle.passage.specs.Read.{lineAnswer}
 use Rattle.passage.specs.Seal.{assignmentOfLine, checkLineAnswer, digestOfLine, lineBits, sealAnswer}
 use Rattle.passage.specs.Sealed.{SealedAccepted}
@@ -47,8 +47,8 @@ sealed-accepted s d a bytes e =
     let sealed = sealed-done s (length d) (length a) e in
     let digest : take 32 (digestOfLine (sealAnswer s (length d) (length a)) s d) ≡ digestBytes lineBits s =
     ap (λ r. take 32 (digestOfLine r s d)) e ∙ take-at (digestBytes lineBits s) (drop 32 d) 32 (length-digest lineBits s) in
-    let wires : assignmentOfLine (sealAnswer s (length d) (length a)) s a ≡ produceLeft (produceAnswer lineBits s (length a)) lineBits s a =
+    let wires : assignmentOfLine (sealAnswer s (length d) (length a)) s a ≡ produceLeft (produceAnswer partnerLimit lineBits s (length a)) lineBits s a =
     ap (λ r. assignmentOfLine r s a) (e ∙ sym (line-produced s (length a) (sealed .long) (sealed .assignment-room))) in
     ap (λ t. checkLineAnswer t (take (8 * wireCount (Record lineBits)) (assignmentOfLine (sealAnswer s (length d) (length a)) s a))) digest
     ∙ ap (λ l. checkLineAnswer (digestBytes lineBits s) (take (8 * wireCount (Record lineBits)) l)) wires
-    ∙ demand3 .produced lineBits s a (omega arith) (line-record s bytes (sealed .long)) (sealed .assignment-room)
+    ∙ demand3 .produced partnerLimit lineBits s a line-allowed (line-record s bytes (sealed .long)) (sealed .assignment-room)

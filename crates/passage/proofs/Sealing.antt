@@ -3,6 +3,7 @@
 use mathlib.Core.List.{List}
 use mathlib.Core.Path.{_≡_, _∙_, refl}
 use Prim.Native.Nat.{ℕ, _*_, _<_, _≤_}
+use native.Mathlib.Omega.{arith}
 use borrow.Author.Tests.{eq-eqb, le-ltb, lt-ltb}
 use lib.ListN.{length}
 use Rattle.circuit.specs.Wires.{wireCount}
@@ -10,6 +11,9 @@ use Rattle.circuit.specs.declared.circuits.Circuit.the-variants.{Record}
 use Rattle.encoding.specs.Bits.{number}
 use Rattle.encoding.specs.Bytes.{Bytes}
 use Rattle.encoding.specs.Packed.{spareBits}
+use Rattle.limits.specs.Blocks.{blocks}
+use Rattle.limits.specs.Handed.{IsRecord, recordBytesAnswer, handedAnswer}
+use Rattle.limits.specs.Limit.{Allows, allowance, partnerLimit}
 use Rattle.passage.specs.Format.{lineLength}
 use Rattle.passage.specs.Read.{lineAnswer}
 use Rattle.passage.specs.Seal.{lineBits, sealAnswer}
@@ -19,8 +23,6 @@ use Rattle.refusal.specs.declared.outcome.Outcome.{Outcome}
 use Rattle.refusal.specs.declared.outcome.Refusal.the-variants.{BufferTooShort}
 use Rattle.refusal.specs.declared.outcome.Refusal.{Refusal}
 use Rattle.sm3.specs.Digest.{digestAnswer}
-use Rattle.sm3.specs.Handed.{IsRecord, handedAnswer}
-use Rattle.sm3.specs.Message.{blocks}
 
 -- 8 bytes a wire
 pub assignment-bytes : 8 * wireCount (Record lineBits) ≡ 364552
@@ -31,15 +33,20 @@ pub line-record : (s : List ℕ) → Bytes s → length s ≡ lineLength → IsR
 unfolding spareBits number
 line-record s bytes long = record { bytes = bytes; size = long; spare = refl }
 
-handed-line : (s : List ℕ) (more : Outcome) → length s ≡ lineLength → handedAnswer lineBits s more ≡ more
-unfolding handedAnswer spareBits number
+-- the partner's limit allows it
+pub line-allowed : Allows partnerLimit lineBits
+unfolding blocks
+line-allowed = record { limit = (omega arith, omega arith); fits = omega arith }
+
+handed-line : (s : List ℕ) (more : Outcome) → length s ≡ lineLength → handedAnswer partnerLimit lineBits s more ≡ more
+unfolding handedAnswer allowance blocks recordBytesAnswer spareBits number
 handed-line s more long = simp (eq-eqb (length s) lineLength long)
 
-pub line-digested : (s : List ℕ) (room : ℕ) → length s ≡ lineLength → 32 ≤ room → digestAnswer lineBits s room ≡ Done
+pub line-digested : (s : List ℕ) (room : ℕ) → length s ≡ lineLength → 32 ≤ room → digestAnswer partnerLimit lineBits s room ≡ Done
 line-digested s room long enough = handed-line s _ long ∙ simp (le-ltb room 32 enough)
 
 pub line-produced : (s : List ℕ) (room : ℕ) → length s ≡ lineLength → 8 * wireCount (Record lineBits) ≤ room
-    → produceAnswer lineBits s room ≡ Done
+    → produceAnswer partnerLimit lineBits s room ≡ Done
 line-produced s room long enough = handed-line s _ long ∙ simp (le-ltb room (8 * wireCount (Record lineBits)) enough)
 
 module _ (s : List ℕ) (digestRoom assignmentRoom : ℕ) where

@@ -6,6 +6,7 @@ use Prim.Native.Nat.{ℕ, _*_}
 use lib.Dec.{ltb}
 use Rattle.circuit.specs.Wires.{wireCount}
 use Rattle.circuit.specs.declared.circuits.Circuit.the-variants.{Record}
+use Rattle.limits.specs.Limit.{partnerLimit}
 use Rattle.passage.specs.Format.{lineLength}
 use Rattle.passage.specs.Read.{lineAnswer, next}
 use Rattle.record.specs.Check.{checkAnswer}
@@ -33,6 +34,6 @@ digestOfLine r s out = digestLeft r lineBits s out
 abbrev pub assignmentOfLine : Outcome → List ℕ → List ℕ → List ℕ
 assignmentOfLine r s out = produceLeft r lineBits s out
 
--- document 01's check, for a record of a line's length
+-- document 01's check, for a record of a line's length: "the passage and axle calls two" blocks (document 02, request 8), which a line needs
 abbrev pub checkLineAnswer : List ℕ → List ℕ → Outcome
-checkLineAnswer digest assignment = checkAnswer lineBits digest assignment
+checkLineAnswer digest assignment = checkAnswer partnerLimit lineBits digest assignment

@@ -3,6 +3,7 @@ ghost use mathlib.Core.Path.{_≡_};
 ghost use lib.ListN.{length};
 ghost use Rattle.passage.specs.Seal.{assignmentOfLine, digestOfLine, sealAnswer};
 use crate::line::ask_line;
+use limits::limit::PARTNER_LIMIT;
 use record::produce::produce;
 use refusal::outcome::Outcome;
 use refusal::outcome::Refusal;
@@ -33,6 +34,6 @@ pub fn seal(line: &[u8], digest: &mut [u8], assignment: &mut [u8]) -> Outcome
     if assignment.len() < ASSIGNMENT_BYTES {
         return Outcome::Refused(Refusal::BufferTooShort);
     }
-    sm3::digest::digest(LINE_BITS, line, digest);
-    produce(LINE_BITS, line, assignment)
+    sm3::digest::digest(PARTNER_LIMIT, LINE_BITS, line, digest);
+    produce(PARTNER_LIMIT, LINE_BITS, line, assignment)
 }

@@ -21,6 +21,9 @@ use Rattle.encoding.specs.Bits.{bitOfBytes}
 use Rattle.encoding.specs.Bytes.{Bytes}
 use Rattle.encoding.specs.Packed.{packedBytes}
 use Rattle.forms.proofs.exact.Runs.{Agree}
+use Rattle.limits.proofs.handed.Asked.{handed-passes}
+use Rattle.limits.specs.Handed.{IsRecord}
+use Rattle.limits.specs.Limit.{Allows}
 use Rattle.record.proofs.Accepted.{accepted-iff}
 use Rattle.record.proofs.DigestBits.{bit-of-digest, digest-bytes, length-digest}
 use Rattle.record.proofs.exact.Record.{readOff, wires-congruent}
@@ -31,9 +34,7 @@ use Rattle.record.specs.Layout.{wireOf}
 use Rattle.record.specs.Produce.{assignmentOf, produceAnswer, produceLeft}
 use Rattle.refusal.specs.declared.outcome.Outcome.the-variants.{Done}
 use Rattle.satisfaction.proofs.Acceptance.{Accepts, Passed, judged-entries}
-use Rattle.sm3.proofs.handed.Asked.{handed-passes}
-use Rattle.sm3.specs.Handed.{IsRecord}
-use Rattle.sm3.specs.Message.{digestBytes, mostBits}
+use Rattle.sm3.specs.Message.{digestBytes}
 
 -- The assignment that is written from a record.
 module _ (n : ℕ) (r : List ℕ) where
@@ -66,12 +67,12 @@ module _ (n : ℕ) (r : List ℕ) where
         digest-wires = digest-wires (entry assigned) agree;
       }
 
-  -- it is accepted against the record's digest
-  assigned-accepted : n ≤ mostBits → IsAccepted n (digestBytes n r) assigned
+  -- it is accepted against the record's digest, with every limit that allows the length
+  assigned-accepted : (l : ℕ) → Allows l n → IsAccepted l n (digestBytes n r) assigned
   unfolding rowAt
-  assigned-accepted range =
-      accepted-iff n (digestBytes n r) assigned .1 (
-        range,
+  assigned-accepted l allowed =
+      accepted-iff l n (digestBytes n r) assigned .1 (
+        allowed,
         record {
           passed = passed;
           satisfied = some-record n (entry assigned) (judged-entries passed) .1 (bitOfBytes r, bits, agree);
@@ -113,9 +114,9 @@ module _ (n : ℕ) (d : List ℕ) (a : ℕ → ℕ) (wires : Agree a 0 (wireCoun
   )
 
 -- An accepted assignment has the wires of what is read off.
-module _ (n : ℕ) (d a : List ℕ) (accepted : IsAccepted n d a) where
+module _ (l n : ℕ) (d a : List ℕ) (accepted : IsAccepted l n d a) where
   accepts : Accepts (Record n) d a
-  accepts = accepted-iff n d a .0 accepted .1
+  accepts = accepted-iff l n d a .0 accepted .1
 
   read-off-wires : Agree (entry a) 0 (wireCount (Record n)) (wireOf n (readOff (entry a)))
   unfolding rowAt
@@ -137,9 +138,9 @@ module _ (n : ℕ) (d a : List ℕ) (accepted : IsAccepted n d a) where
       read-record n d (entry a) read-off-wires (accepts .passed .digest-length) (accepts .passed .digest-wires) digest in
       (r, is, same, accepted-bytes bytes (bitOfBytes r) read)
 
--- A record in range is not refused where there is room, and what the producer leaves is the record's assignment.
-not-refused : (n : ℕ) (r : List ℕ) (room : ℕ) → n ≤ mostBits → IsRecord n r → 8 * wireCount (Record n) ≤ room → produceAnswer n r room ≡ Done
-not-refused n r room range is fits = handed-passes n r _ range is ∙ rw (le-ltb room (8 * wireCount (Record n)) fits)
+-- A record that the limit allows is not refused where there is room, and what the producer leaves is the record's assignment.
+not-refused : (l n : ℕ) (r : List ℕ) (room : ℕ) → Allows l n → IsRecord n r → 8 * wireCount (Record n) ≤ room → produceAnswer l n r room ≡ Done
+not-refused l n r room allowed is fits = handed-passes n r l _ allowed is ∙ rw (le-ltb room (8 * wireCount (Record n)) fits)
 
 produced-front : (n : ℕ) (r out : List ℕ) → take (8 * wireCount (Record n)) (produceLeft Done n r out) ≡ assignmentOf n (bitOfBytes r)
 unfolding assignmentOf
@@ -149,19 +150,19 @@ pub demand3 : Demand3
 demand3 =
     record {
       unique =
-          λ n d₁ d₂ a₁ a₂ b₁ b₂ h₁ h₂ same.
-          accepted-bytes n d₁ a₁ h₁ b₁ (readOff (entry a₁)) (λ k b. refl)
-          ∙ sym (accepted-bytes n d₂ a₂ h₂ b₂ (readOff (entry a₁)) (λ k b. ap (λ x. x % 2) (sym (entry-of-wire a₁ a₂ _ (same k b)))));
+          λ l₁ l₂ n d₁ d₂ a₁ a₂ b₁ b₂ h₁ h₂ same.
+          accepted-bytes l₁ n d₁ a₁ h₁ b₁ (readOff (entry a₁)) (λ k b. refl)
+          ∙ sym (accepted-bytes l₂ n d₂ a₂ h₂ b₂ (readOff (entry a₁)) (λ k b. ap (λ x. x % 2) (sym (entry-of-wire a₁ a₂ _ (same k b)))));
       exact =
-          λ n d a range digest bytes. (
-            λ h. accepted-record n d a h digest bytes,
+          λ l n d a allowed digest bytes. (
+            λ h. accepted-record l n d a h digest bytes,
             λ (r, is, same, whole).
-                subst (λ a. IsAccepted n d a) (sym whole)
-                (subst (λ d. IsAccepted n d (assignmentOf n (bitOfBytes r))) same (assigned-accepted n r range)),
+                subst (λ a. IsAccepted l n d a) (sym whole)
+                (subst (λ d. IsAccepted l n d (assignmentOf n (bitOfBytes r))) same (assigned-accepted n r l allowed)),
           );
       produced =
-          λ n r out range is room.
-          subst (λ answer. IsAccepted n (digestBytes n r) (take (8 * wireCount (Record n)) (produceLeft answer n r out)))
-          (sym (not-refused n r (length out) range is room))
-          (subst (IsAccepted n (digestBytes n r)) (sym (produced-front n r out)) (assigned-accepted n r range));
+          λ l n r out allowed is room.
+          subst (λ answer. IsAccepted l n (digestBytes n r) (take (8 * wireCount (Record n)) (produceLeft answer n r out)))
+          (sym (not-refused l n r (length out) allowed is room))
+          (subst (IsAccepted l n (digestBytes n r)) (sym (produced-front n r out)) (assigned-accepted n r l allowed));
     }

@@ -1,10 +1,16 @@
--- The check of a record goes on with that of its circuit, which is the same function with signed coefficients.
-use mathlib.Core.Path.{fun-ext}
+-- With our limit the check of a record asks the length as before; then comes that of its circuit, which is the same function with signed
+-- coefficients.
+use mathlib.Core.Path.{_∙_, fun-ext}
 use Rattle.circuit.specs.declared.circuits.Circuit.the-variants.{Record}
+use Rattle.limits.proofs.Limited.{ours-stand}
+use Rattle.limits.specs.Limit.{lengthAnswer}
 use Rattle.record.specs.Check.{checkAnswer}
 use Rattle.record.specs.Former.{AnswerUnaltered, formerAnswer}
+use Rattle.refusal.specs.declared.outcome.Outcome.the-variants.{Refused}
+use Rattle.refusal.specs.declared.outcome.Outcome.{Outcome}
 use Rattle.satisfaction.proofs.Unaltered.{same-answer}
 
 pub answer-unaltered : AnswerUnaltered
-unfolding checkAnswer formerAnswer
-answer-unaltered = fun-ext (λ n. fun-ext (λ d. fun-ext (λ a. rw (same-answer (Record n) d a))))
+unfolding checkAnswer formerAnswer lengthAnswer
+answer-unaltered =
+    fun-ext (λ n. fun-ext (λ d. fun-ext (λ a. ours-stand Outcome Refused (λ answer. answer) n _ ∙ rw (same-answer (Record n) d a))))

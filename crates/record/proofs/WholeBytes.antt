@@ -9,29 +9,39 @@ use lib.ListN.{length}
 use Rattle.circuit.proofs.WholeBytes as circuit
 use Rattle.circuit.specs.GivenRow.{givenRow}
 use Rattle.circuit.specs.Wires.{frameWires}
+use Rattle.circuit.specs.declared.given_row.RowAnswer.the-variants as row
+use Rattle.circuit.specs.declared.given_row.RowAnswer.{RowAnswer}
+use Rattle.limits.proofs.Limited.{ours-stand}
+use Rattle.limits.specs.Limit.{lengthAnswer}
 use Rattle.record.specs.Check.{checkAnswer}
 use Rattle.record.specs.Layout.{messageWires, wireOf}
 use Rattle.record.specs.RowAnswer.{rowAnswer}
 use Rattle.record.specs.WholeBytes.{WholeBytes}
 use Rattle.refusal.specs.declared.outcome.Outcome.the-variants.{Done, Refused}
-use Rattle.refusal.specs.declared.outcome.Refusal.the-variants.{BufferTooShort, LengthAboveLimit}
+use Rattle.refusal.specs.declared.outcome.Outcome.{Outcome}
+use Rattle.refusal.specs.declared.outcome.Refusal.the-variants.{BufferTooShort, LengthOutOfRange}
 use Rattle.satisfaction.specs.Check.{circuitCheck}
 use Rattle.sm3.proofs.WholeBytes.{padded-message, whole-bytes, whole-handed}
 use Rattle.sm3.specs.Message.{chainingValue, digestOf}
 use Rattle.sm3.specs.WholeBytes.{mostBytes}
 
 pub record-whole-bytes : WholeBytes
-unfolding wireOf digestOf rowAnswer givenRow checkAnswer circuitCheck
+unfolding wireOf digestOf rowAnswer givenRow checkAnswer lengthAnswer circuitCheck
 record-whole-bytes =
     record {
       wires =
           λ r.
           ap₂ (λ m c. frameWires (chainingValue m c) (messageWires m)) (padded-message r) (whole-bytes .block-count (length r));
-      row = λ L k room. rw (whole-bytes .range L, circuit.whole-bytes .row-count L);
+      row =
+          λ L k room.
+          ours-stand RowAnswer row.Refused (λ answer. answer) (8 * L) _ ∙ rw (whole-bytes .range L, circuit.whole-bytes .row-count L);
       produce =
           λ r room.
           whole-handed r _
-          ∙ ap (λ n. cond (ltb mostBytes (length r)) (Refused LengthAboveLimit) (cond (ltb room (8 * n)) (Refused BufferTooShort) Done))
+          ∙ ap (λ n. cond (ltb mostBytes (length r)) (Refused LengthOutOfRange) (cond (ltb room (8 * n)) (Refused BufferTooShort) Done))
           (circuit.whole-bytes .wire-count (length r));
-      check = λ L d a. rw (whole-bytes .range L, circuit.whole-bytes .wire-count L, circuit.whole-bytes .row-count L);
+      check =
+          λ L d a.
+          ours-stand Outcome Refused (λ answer. answer) (8 * L) _
+          ∙ rw (whole-bytes .range L, circuit.whole-bytes .wire-count L, circuit.whole-bytes .row-count L);
     }

@@ -15,12 +15,13 @@ use Rattle.circuit.specs.Wires.{frameWires}
 use Rattle.circuit.specs.declared.circuits.Circuit.the-variants.{Record}
 use Rattle.circuit.specs.declared.given_row.RowAnswer.the-variants as row
 use Rattle.encoding.specs.Bits.{bitOfBytes}
+use Rattle.limits.specs.Limit.{ourLimit}
 use Rattle.record.specs.Check.{checkAnswer}
 use Rattle.record.specs.Layout.{messageWires, wireOf}
 use Rattle.record.specs.Produce.{produceAnswer}
 use Rattle.record.specs.RowAnswer.{rowAnswer}
 use Rattle.refusal.specs.declared.outcome.Outcome.the-variants.{Done, Refused}
-use Rattle.refusal.specs.declared.outcome.Refusal.the-variants.{BufferTooShort, DigestNot32, DigestWire, LengthAboveLimit, RowOutOfRange, WireZero, WrongLength}
+use Rattle.refusal.specs.declared.outcome.Refusal.the-variants.{BufferTooShort, DigestNot32, DigestWire, LengthOutOfRange, RowOutOfRange, WireZero, WrongLength}
 use Rattle.satisfaction.specs.Check.{afterRows, same}
 use Rattle.satisfaction.specs.Lowest.{lowest}
 use Rattle.sm3.specs.Message.{chainingValue}
@@ -34,21 +35,21 @@ pub record WholeBytes : Type 0 where
   -- "2. The record length is above 1,015." "3. The row number is not below the row count." "4. The buffer to be written is shorter
   -- than .. 1,956 for a row"
   pub row : (L k room : ℕ)
-      → rowAnswer (8 * L) k room
-      ≡ cond (ltb mostBytes L) (row.Refused LengthAboveLimit)
+      → rowAnswer ourLimit (8 * L) k room
+      ≡ cond (ltb mostBytes L) (row.Refused LengthOutOfRange)
       (cond (leb (rowsOfBytes L) k) (row.Refused RowOutOfRange)
       (cond (ltb room 1956) (row.Refused BufferTooShort)
       (counted (rowAt (Record (8 * L)) k))))
   -- ".. or 8 × wires for an assignment"
   pub produce : (r : List ℕ) (room : ℕ)
-      → produceAnswer (8 * length r) r room
-      ≡ cond (ltb mostBytes (length r)) (Refused LengthAboveLimit)
+      → produceAnswer ourLimit (8 * length r) r room
+      ≡ cond (ltb mostBytes (length r)) (Refused LengthOutOfRange)
       (cond (ltb room (8 * wiresOfBytes (length r))) (Refused BufferTooShort) Done)
   -- "5. The digest .. is not 32 bytes." "6. An assignment .. is not exactly 8 × wires bytes." "20, an entry of p or more" "7. Wire 0
   -- does not read as 1." "8. A digest wire does not read as its bit of the digest." "9. A row is not satisfied"
   pub check : (L : ℕ) (d a : List ℕ)
-      → checkAnswer (8 * L) d a
-      ≡ cond (ltb mostBytes L) (Refused LengthAboveLimit)
+      → checkAnswer ourLimit (8 * L) d a
+      ≡ cond (ltb mostBytes L) (Refused LengthOutOfRange)
       (cond (not (eqb (length d) 32)) (Refused DigestNot32)
       (cond (not (eqb (length a) (8 * wiresOfBytes L))) (Refused WrongLength)
       (belowPrimeAnswer (wiresOfBytes L) a

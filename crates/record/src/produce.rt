@@ -8,9 +8,10 @@ ghost use Rattle.circuit.specs.Wires.{wireCount, firstBlock};
 ghost use Rattle.circuit.specs.declared.circuits.Circuit.the-variants.{Record};
 ghost use Rattle.encoding.specs.Bits.{bitOfBytes};
 ghost use Rattle.encoding.specs.Packed.{packedLength};
+ghost use Rattle.limits.specs.Blocks.{blocks, mostBits};
 ghost use Rattle.record.specs.Layout.{messageWires, wireOf};
 ghost use Rattle.record.specs.Produce.{produceAnswer, produceLeft};
-ghost use Rattle.sm3.specs.Message.{blocks, digestOf, message, mostBits};
+ghost use Rattle.sm3.specs.Message.{digestOf, message};
 use assignment::block_wires::put_block;
 use assignment::wires::put_entry;
 use assignment::wires::put_state;
@@ -19,13 +20,13 @@ use circuit::wire::DIGEST;
 use circuit::wire::START;
 use circuit::wire::block_first;
 use circuit::wire::wire_count;
+use limits::blocks::block_count;
+use limits::handed::ask_record;
 use refusal::numbers::WireNumber;
 use refusal::outcome::Outcome;
 use refusal::outcome::Refusal;
 use sm3::constants::rotated_constants;
 use sm3::constants::start_state;
-use sm3::handed::handed;
-use sm3::message::block_count;
 use sm3::message::message_words;
 use sm3::state::State;
 
@@ -61,12 +62,12 @@ pub fn put_assignment(out: &mut [u8], bits: u64, bytes: &[u8])
     put_entry(out, WireNumber(0), 1);
 }
 
-// The assignment of a record of at most 8,127 bits, into the first bytes of `out`.
-pub fn produce(bits: u64, bytes: &[u8], out: &mut [u8]) -> Outcome
-    ensures { λ r. ⌜ r ≡ produceAnswer bits (now (bytes .entry)) (length (now (out .entry))) ⌝ }
+// The assignment of a record of so many bits, and of no more blocks than the limit, into the first bytes of `out`.
+pub fn produce(limit: u64, bits: u64, bytes: &[u8], out: &mut [u8]) -> Outcome
+    ensures { λ r. ⌜ r ≡ produceAnswer limit bits (now (bytes .entry)) (length (now (out .entry))) ⌝ }
     ensures { λ r. ⌜ now (out .exit) ≡ produceLeft r bits (now (bytes .entry)) (now (out .entry)) ⌝ }
 {
-    let answer = handed(bits, bytes);
+    let answer = ask_record(limit, bits, bytes);
     if let Outcome::Refused(refusal) = answer {
         return Outcome::Refused(refusal);
     }

@@ -5,17 +5,18 @@ ghost use Rattle.record.specs.RowAnswer.{rowAnswer, rowLeft};
 use circuit::circuits::Circuit;
 use circuit::given_row::RowAnswer;
 use circuit::given_row::give_row;
+use limits::limit::ask_length;
 use refusal::numbers::RowNumber;
-use refusal::outcome::Refusal;
-use sm3::message::MOST_BITS;
+use refusal::outcome::Outcome;
 
 // The row of a number for a record of so many bits, into the front of `out`: the terms of A, then B, then C.
-pub fn row(bits: u64, row: RowNumber, out: &mut [u8]) -> RowAnswer
-    ensures { λ r. ⌜ r ≡ rowAnswer bits (row .0) (length (now (out .entry))) ⌝ }
+pub fn row(limit: u64, bits: u64, row: RowNumber, out: &mut [u8]) -> RowAnswer
+    ensures { λ r. ⌜ r ≡ rowAnswer limit bits (row .0) (length (now (out .entry))) ⌝ }
     ensures { λ r. ⌜ now (out .exit) ≡ rowLeft r bits (row .0) (now (out .entry)) ⌝ }
 {
-    if MOST_BITS < bits {
-        return RowAnswer::Refused(Refusal::LengthAboveLimit);
+    let allowed = ask_length(limit, bits);
+    if let Outcome::Refused(refusal) = allowed {
+        return RowAnswer::Refused(refusal);
     }
     give_row(Circuit::Record { bits }, row, out)
 }

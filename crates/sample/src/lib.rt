@@ -2,7 +2,7 @@
 ghost use mathlib.Core.Path.{_≡_};
 ghost use Prim.Native.Nat.{_≤_};
 ghost use lib.ListN.{length};
-ghost use Rattle.sm3.specs.Message.{mostBits};
+ghost use Rattle.limits.specs.Blocks.{mostBits};
 
 // The bytes of the longest record.
 pub const MOST_BYTES: usize = 1016;

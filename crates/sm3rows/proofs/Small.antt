@@ -5,10 +5,9 @@ use mathlib.Core.List.{List}
 use mathlib.Core.Path.{refl}
 use Prim.Native.Nat.{ℕ, _*_, _<_}
 use native.Mathlib.Omega.{arith}
-use borrow.Author.Tests.{leb-false, ltb-false}
-use lib.Dec.{eqb, leb, lit<, ltb}
-use lib.ListN.{length, length-append}
-use Rattle.assignment.proofs.EntriesBelow.{limit-small}
+use borrow.Author.Tests.{leb-false}
+use lib.Dec.{leb, lit<, ltb}
+use lib.ListN.{length-append}
 use Rattle.axles.specs.Band.{inBand}
 use Rattle.axles.specs.Check.{axlesCheckAnswer}
 use Rattle.axles.specs.Produce.{axlesProduceAnswer}
@@ -24,35 +23,37 @@ use Rattle.circuit.specs.Ranges.{Allowed}
 use Rattle.circuit.specs.Wires.{wireCount}
 use Rattle.circuit.specs.declared.circuits.Circuit.the-variants.{Axles, Record}
 use Rattle.circuit.specs.declared.circuits.Circuit.{Circuit}
-use Rattle.encoding.specs.Packed.{packedLength, spareBits}
+use Rattle.circuit.specs.declared.given_row.RowAnswer.the-variants as row
 use Rattle.forms.specs.Rows.{terms}
+use Rattle.limits.proofs.handed.Asked.{bytes-holds}
+use Rattle.limits.proofs.limit.Decided.{allowed-range, limited-holds}
+use Rattle.limits.specs.Handed.{recordBytesAnswer, handedAnswer}
+use Rattle.limits.specs.Limit.{lengthAnswer}
+use Rattle.packing.proofs.Answers.{pack-holds, unpack-holds}
 use Rattle.packing.specs.Pack.{packAnswer}
-use Rattle.packing.specs.Unpack.{packedAnswer, unpackAnswer}
+use Rattle.packing.specs.Unpack.{unpackAnswer}
 use Rattle.record.specs.Produce.{produceAnswer}
 use Rattle.record.specs.RowAnswer.{rowAnswer}
 use Rattle.refusal.proofs.Small.{Small, bare, done-small, room-small, tested}
 use Rattle.refusal.proofs.Tests.{not-iff}
+use Rattle.refusal.specs.declared.outcome.Outcome.the-variants.{Refused}
 use Rattle.refusal.specs.declared.outcome.Outcome.{Outcome}
-use Rattle.satisfaction.proofs.circuit_check.Small.{check-small}
+use Rattle.satisfaction.proofs.circuit_check.Answers.{check-small}
 use Rattle.sm3.specs.Digest.{digestAnswer}
-use Rattle.sm3.specs.Handed.{handedAnswer}
-use Rattle.sm3.specs.Message.{mostBits}
 use Rattle.sm3rows.specs.Small.{SmallRow}
 
 -- the tests of a record as it is handed over
-handed-small : (n : ℕ) (r : List ℕ) (next : Outcome) → Small next → Small (handedAnswer n r next)
+handed-small : (l n : ℕ) (r : List ℕ) (next : Outcome) → Small next → Small (handedAnswer l n r next)
 unfolding handedAnswer
-handed-small n r next small =
-    tested Small (ltb mostBits n) (bare refl)
-    (λ _.
-    tested Small (not (eqb (length r) (packedLength n))) (bare refl)
-    (λ _. tested Small (not (eqb (spareBits n r) 0)) (bare refl) (λ _. small)))
+handed-small l n r next small =
+    limited-holds Small Refused (recordBytesAnswer n r) next l n (bytes-holds n r Small (bare refl) (bare refl)) (bare refl) (bare refl) (bare refl)
+    (λ _. small)
 
-pub digest-small : (n : ℕ) (r : List ℕ) (room : ℕ) → Small (digestAnswer n r room)
-digest-small n r room = handed-small n r _ (room-small (ltb room 32))
+pub digest-small : (l n : ℕ) (r : List ℕ) (room : ℕ) → Small (digestAnswer l n r room)
+digest-small l n r room = handed-small l n r _ (room-small (ltb room 32))
 
-pub produce-small : (n : ℕ) (r : List ℕ) (room : ℕ) → Small (produceAnswer n r room)
-produce-small n r room = handed-small n r _ (room-small (ltb room (8 * wireCount (Record n))))
+pub produce-small : (l n : ℕ) (r : List ℕ) (room : ℕ) → Small (produceAnswer l n r room)
+produce-small l n r room = handed-small l n r _ (room-small (ltb room (8 * wireCount (Record n))))
 
 module _ (C : Circuit) (allowed : Allowed C) (k room : ℕ) where
   counts-small : k < rowCount C → SmallRow (counted (rowAt C k))
@@ -67,32 +68,26 @@ module _ (C : Circuit) (allowed : Allowed C) (k room : ℕ) where
       tested SmallRow (leb (rowCount C) k) (lit< tt)
       (λ e. tested SmallRow (ltb room rowBytes) (lit< tt) (λ _. counts-small (leb-false (rowCount C) k e)))
 
-pub row-small : (n k room : ℕ) → SmallRow (rowAnswer n k room)
+pub row-small : (l n k room : ℕ) → SmallRow (rowAnswer l n k room)
 unfolding rowAnswer
-row-small n k room = tested SmallRow (ltb mostBits n) (lit< tt) (λ e. given-small (Record n) (ltb-false mostBits n e) k room)
+row-small l n k room =
+    limited-holds SmallRow row.Refused (λ x. x) _ l n (λ x small. small) (lit< tt) (lit< tt) (lit< tt)
+    (λ allowed. given-small (Record n) (allowed-range allowed) k room)
 
-pub pack-small : (n : ℕ) (a : List ℕ) (room : ℕ) → Small (packAnswer n a room)
-unfolding packAnswer
-pack-small n a room =
-    tested Small (ltb mostBits n) (bare refl)
-    (λ e.
-    let few = most-wires (Record n) (ltb-false mostBits n e) in
-    tested Small (ltb room (packedLength (wireCount (Record n)))) (bare refl)
-    (λ _.
-    tested Small (not (eqb (length a) (8 * wireCount (Record n)))) (bare refl)
-    (λ _.
-    limit-small _ _ (wireCount (Record n)) a _ (λ w l. record { room = omega (arith, l, few) })
-    (limit-small _ _ (wireCount (Record n)) a _ (λ w l. record { room = omega (arith, l, few) }) done-small))))
+pub pack-small : (l n : ℕ) (a : List ℕ) (room : ℕ) → Small (packAnswer l n a room)
+unfolding packAnswer lengthAnswer
+pack-small l n a room =
+    limited-holds Small Refused (λ x. x) _ l n (λ x small. small) (bare refl) (bare refl) (bare refl)
+    (λ allowed.
+    let few = most-wires (Record n) (allowed-range allowed) in
+    pack-holds Small (wireCount (Record n)) a room (bare refl) (bare refl) (λ w below. record { room = omega (arith, below, few) })
+    (λ w below. record { room = omega (arith, below, few) }) done-small)
 
-pub unpack-small : (n : ℕ) (p : List ℕ) (room : ℕ) → Small (unpackAnswer n p room)
-unfolding unpackAnswer packedAnswer
-unpack-small n p room =
-    tested Small (ltb mostBits n) (bare refl)
-    (λ _.
-    tested Small (ltb room (8 * wireCount (Record n))) (bare refl)
-    (λ _.
-    tested Small (not (eqb (length p) (packedLength (wireCount (Record n))))) (bare refl)
-    (λ _. tested Small (not (eqb (spareBits (wireCount (Record n)) p) 0)) (bare refl) (λ _. done-small))))
+pub unpack-small : (l n : ℕ) (p : List ℕ) (room : ℕ) → Small (unpackAnswer l n p room)
+unfolding unpackAnswer lengthAnswer
+unpack-small l n p room =
+    limited-holds Small Refused (λ x. x) _ l n (λ x small. small) (bare refl) (bare refl) (bare refl)
+    (λ _. unpack-holds Small (wireCount (Record n)) p room (bare refl) (bare refl) (bare refl) done-small)
 
 -- Between two bounds.
 
@@ -105,9 +100,8 @@ axles-row-small lower upper k room =
 pub axles-produce-small : (lower upper : ℕ) (r : List ℕ) (room : ℕ) → Small (axlesProduceAnswer lower upper r room)
 unfolding axlesProduceAnswer
 axles-produce-small lower upper r room =
-    tested Small (not (eqb (length r) 63)) (bare refl)
-    (λ _.
-    tested Small (not (boundsInRange lower upper)) (bare refl)
+    handed-small _ _ r _
+    (tested Small (not (boundsInRange lower upper)) (bare refl)
     (λ _.
     tested Small (not (inBand lower upper r)) (bare refl)
     (λ _. room-small (ltb room (8 * wireCount (Axles lower upper))))))

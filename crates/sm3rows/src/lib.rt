@@ -1,5 +1,5 @@
 // The operations for a C host: each takes numbers and byte slices and answers one 64-bit number, whose low byte is
-// the refusal's number and which has the values above it (docs/HOST.md).
+// the refusal's number and which has the values above it (docs/HOST.md). A caller's limit in blocks comes first.
 ghost use mathlib.Core.Path.{_≡_};
 ghost use lib.ListN.{length};
 ghost use Rattle.axles.specs.Check.{axlesCheckAnswer};
@@ -32,55 +32,55 @@ fn pack_row(answer: RowAnswer) -> u64
 
 // The digest of a record of so many bits, into the first 32 bytes of `out`.
 #[no_mangle]
-pub extern "C" fn sm3rows_digest(bits: u64, bytes: &[u8], out: &mut [u8]) -> u64
-    ensures { λ r. ⌜ r ≡ packedOutcome (digestAnswer bits (now (bytes .entry)) (length (now (out .entry)))) ⌝ }
-    ensures { λ r. ⌜ now (out .exit) ≡ digestLeft (digestAnswer bits (now (bytes .entry)) (length (now (out .entry)))) bits (now (bytes .entry)) (now (out .entry)) ⌝ }
+pub extern "C" fn sm3rows_digest(limit: u64, bits: u64, bytes: &[u8], out: &mut [u8]) -> u64
+    ensures { λ r. ⌜ r ≡ packedOutcome (digestAnswer limit bits (now (bytes .entry)) (length (now (out .entry)))) ⌝ }
+    ensures { λ r. ⌜ now (out .exit) ≡ digestLeft (digestAnswer limit bits (now (bytes .entry)) (length (now (out .entry)))) bits (now (bytes .entry)) (now (out .entry)) ⌝ }
 {
-    pack_outcome(sm3::digest::digest(bits, bytes, out))
+    pack_outcome(sm3::digest::digest(limit, bits, bytes, out))
 }
 
 // One row by its number, for a record of so many bits, into the front of `out`.
 #[no_mangle]
-pub extern "C" fn sm3rows_row(bits: u64, row: u64, out: &mut [u8]) -> u64
-    ensures { λ r. ⌜ r ≡ packedRow (rowAnswer bits row (length (now (out .entry)))) ⌝ }
-    ensures { λ r. ⌜ now (out .exit) ≡ rowLeft (rowAnswer bits row (length (now (out .entry)))) bits row (now (out .entry)) ⌝ }
+pub extern "C" fn sm3rows_row(limit: u64, bits: u64, row: u64, out: &mut [u8]) -> u64
+    ensures { λ r. ⌜ r ≡ packedRow (rowAnswer limit bits row (length (now (out .entry)))) ⌝ }
+    ensures { λ r. ⌜ now (out .exit) ≡ rowLeft (rowAnswer limit bits row (length (now (out .entry)))) bits row (now (out .entry)) ⌝ }
 {
-    pack_row(record::row::row(bits, RowNumber(row), out))
+    pack_row(record::row::row(limit, bits, RowNumber(row), out))
 }
 
 // The whole assignment of a record of so many bits, into the front of `out`.
 #[no_mangle]
-pub extern "C" fn sm3rows_produce(bits: u64, bytes: &[u8], out: &mut [u8]) -> u64
-    ensures { λ r. ⌜ r ≡ packedOutcome (produceAnswer bits (now (bytes .entry)) (length (now (out .entry)))) ⌝ }
-    ensures { λ r. ⌜ now (out .exit) ≡ produceLeft (produceAnswer bits (now (bytes .entry)) (length (now (out .entry)))) bits (now (bytes .entry)) (now (out .entry)) ⌝ }
+pub extern "C" fn sm3rows_produce(limit: u64, bits: u64, bytes: &[u8], out: &mut [u8]) -> u64
+    ensures { λ r. ⌜ r ≡ packedOutcome (produceAnswer limit bits (now (bytes .entry)) (length (now (out .entry)))) ⌝ }
+    ensures { λ r. ⌜ now (out .exit) ≡ produceLeft (produceAnswer limit bits (now (bytes .entry)) (length (now (out .entry)))) bits (now (bytes .entry)) (now (out .entry)) ⌝ }
 {
-    pack_outcome(record::produce::produce(bits, bytes, out))
+    pack_outcome(record::produce::produce(limit, bits, bytes, out))
 }
 
 // The check of an assignment for a record of so many bits against a digest.
 #[no_mangle]
-pub extern "C" fn sm3rows_check(bits: u64, digest: &[u8], assignment: &[u8]) -> u64
-    ensures { λ r. ⌜ r ≡ packedOutcome (checkAnswer bits (now (digest .entry)) (now (assignment .entry))) ⌝ }
+pub extern "C" fn sm3rows_check(limit: u64, bits: u64, digest: &[u8], assignment: &[u8]) -> u64
+    ensures { λ r. ⌜ r ≡ packedOutcome (checkAnswer limit bits (now (digest .entry)) (now (assignment .entry))) ⌝ }
 {
-    pack_outcome(record::check::check(bits, digest, assignment))
+    pack_outcome(record::check::check(limit, bits, digest, assignment))
 }
 
 // An assignment for records of so many bits, packed a bit a wire into the front of `out`.
 #[no_mangle]
-pub extern "C" fn sm3rows_pack(bits: u64, assignment: &[u8], out: &mut [u8]) -> u64
-    ensures { λ r. ⌜ r ≡ packedOutcome (packAnswer bits (now (assignment .entry)) (length (now (out .entry)))) ⌝ }
-    ensures { λ r. ⌜ now (out .exit) ≡ packLeft (packAnswer bits (now (assignment .entry)) (length (now (out .entry)))) bits (now (assignment .entry)) (now (out .entry)) ⌝ }
+pub extern "C" fn sm3rows_pack(limit: u64, bits: u64, assignment: &[u8], out: &mut [u8]) -> u64
+    ensures { λ r. ⌜ r ≡ packedOutcome (packAnswer limit bits (now (assignment .entry)) (length (now (out .entry)))) ⌝ }
+    ensures { λ r. ⌜ now (out .exit) ≡ packLeft (packAnswer limit bits (now (assignment .entry)) (length (now (out .entry)))) bits (now (assignment .entry)) (now (out .entry)) ⌝ }
 {
-    pack_outcome(packing::pack::pack(bits, assignment, out))
+    pack_outcome(packing::pack::pack(limit, bits, assignment, out))
 }
 
 // Packed bytes for records of so many bits as 8-byte entries, into the front of `out`.
 #[no_mangle]
-pub extern "C" fn sm3rows_unpack(bits: u64, packed: &[u8], out: &mut [u8]) -> u64
-    ensures { λ r. ⌜ r ≡ packedOutcome (unpackAnswer bits (now (packed .entry)) (length (now (out .entry)))) ⌝ }
-    ensures { λ r. ⌜ now (out .exit) ≡ unpackLeft (unpackAnswer bits (now (packed .entry)) (length (now (out .entry)))) bits (now (packed .entry)) (now (out .entry)) ⌝ }
+pub extern "C" fn sm3rows_unpack(limit: u64, bits: u64, packed: &[u8], out: &mut [u8]) -> u64
+    ensures { λ r. ⌜ r ≡ packedOutcome (unpackAnswer limit bits (now (packed .entry)) (length (now (out .entry)))) ⌝ }
+    ensures { λ r. ⌜ now (out .exit) ≡ unpackLeft (unpackAnswer limit bits (now (packed .entry)) (length (now (out .entry)))) bits (now (packed .entry)) (now (out .entry)) ⌝ }
 {
-    pack_outcome(packing::unpack::unpack(bits, packed, out))
+    pack_outcome(packing::unpack::unpack(limit, bits, packed, out))
 }
 
 // One row by its number, for axles between two bounds, into the front of `out`.

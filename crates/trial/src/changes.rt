@@ -5,7 +5,7 @@ ghost use lib.ListN.{length};
 ghost use Rattle.circuit.specs.Wires.{wireCount, firstBlock};
 ghost use Rattle.block.specs.Wires.{wiresPerBlock};
 ghost use Rattle.circuit.specs.declared.circuits.Circuit.the-variants.{Record};
-ghost use Rattle.sm3.specs.Message.{mostBits};
+ghost use Rattle.limits.specs.Blocks.{mostBits};
 use crate::line::show;
 use assignment::entry::read;
 use assignment::wires::put_entry;
@@ -17,10 +17,11 @@ use circuit::wire::DIGEST;
 use circuit::wire::START;
 use circuit::wire::block_first;
 use field::P;
+use limits::blocks::MOST_BITS;
+use limits::blocks::block_count;
+use limits::limit::OUR_LIMIT;
 use record::check::check;
 use refusal::numbers::WireNumber;
-use sm3::message::MOST_BITS;
-use sm3::message::block_count;
 
 // The greatest number that an entry has room for, 2^64 - 1.
 const LARGEST: u64 = 18446744073709551615;
@@ -31,7 +32,7 @@ fn disturb(bits: u64, what: &[u8], digest: &[u8], assignment: &mut [u8], w: Wire
 {
     let held = read(assignment, w);
     put_entry(assignment, w, v);
-    show(bits, what, check(bits, digest, assignment));
+    show(bits, what, check(OUR_LIMIT, bits, digest, assignment));
     put_entry(assignment, w, held);
 }
 
@@ -118,7 +119,7 @@ fn change_digest(bits: u64, digest: [u8; 32], assignment: &mut [u8])
     requires { ⌜ 8 * firstBlock ≤ length (now assignment) ⌝ }
 {
     let other = other_digest(digest);
-    show(bits, b"other", check(bits, &other, assignment));
+    show(bits, b"other", check(OUR_LIMIT, bits, &other, assignment));
     change(bits, b"both", &other, assignment, WireNumber(DIGEST));
 }
 
@@ -130,14 +131,18 @@ fn all_but_last(bytes: &[u8]) -> &[u8]
     &bytes[..n]
 }
 
-// A length above the limit, and a digest and an assignment that lack a byte.
+// A length that is too long, and a digest and an assignment that lack a byte.
 fn change_lengths(bits: u64, digest: &[u8], assignment: &[u8])
     requires { ⌜ (1 ≤ length (now digest)) × (1 ≤ length (now assignment)) ⌝ }
 {
-    show(bits, b"length", check(MOST_BITS + 1, digest, assignment));
-    let digest31 = check(bits, all_but_last(digest), assignment);
+    show(
+        bits,
+        b"length",
+        check(OUR_LIMIT, MOST_BITS + 1, digest, assignment),
+    );
+    let digest31 = check(OUR_LIMIT, bits, all_but_last(digest), assignment);
     show(bits, b"digest31", digest31);
-    let short = check(bits, digest, all_but_last(assignment));
+    let short = check(OUR_LIMIT, bits, digest, all_but_last(assignment));
     show(bits, b"short", short);
 }
 
@@ -160,5 +165,5 @@ pub fn change_all(bits: u64, digest: [u8; 32], assignment: &mut [u8])
     change_digest(bits, digest, assignment);
     change_lengths(bits, &digest, assignment);
     add_p(assignment);
-    show(bits, b"plus_p", check(bits, &digest, assignment));
+    show(bits, b"plus_p", check(OUR_LIMIT, bits, &digest, assignment));
 }

@@ -29,8 +29,8 @@ ghost use lib.ListN.{length};
 ghost use Rattle.circuit.specs.Wires.{wireCount};
 ghost use Rattle.circuit.specs.declared.circuits.Circuit.the-variants.{Record};
 ghost use Rattle.encoding.specs.Packed.{packedLength, spareBits};
+ghost use Rattle.limits.specs.Blocks.{mostBits};
 ghost use Rattle.refusal.specs.declared.outcome.Outcome.the-variants.{Done};
-ghost use Rattle.sm3.specs.Message.{mostBits};
 
 mod changes;
 mod line;
@@ -40,23 +40,24 @@ use crate::line::show;
 use circuit::circuits::Circuit;
 use circuit::wire::wire_count;
 use encoding::packed::packed_length;
+use limits::handed::ask_record;
+use limits::limit::OUR_LIMIT;
 use record::check::check;
 use record::produce::produce;
 use record::space::assignment_space;
 use refusal::outcome::Outcome;
 use sample::counted;
 use sm3::digest::digest;
-use sm3::handed::handed;
 
 // The digest of a record of so many bits and its assignment, and the check of the one against the other.
 fn produce_and_check(bits: u64, bytes: &[u8], sum: &mut [u8], out: &mut [u8]) -> Outcome
     requires { ⌜ (bits ≤ mostBits) × (length (now bytes) ≡ packedLength bits) × (spareBits bits (now bytes) ≡ 0) × (length (now sum) ≡ 32) × (8 * wireCount (Record bits) ≤ length (now out)) ⌝ }
     ensures { λ r. ⌜ r ≡ Done ⌝ }
 {
-    digest(bits, bytes, sum);
-    produce(bits, bytes, out);
+    digest(OUR_LIMIT, bits, bytes, sum);
+    produce(OUR_LIMIT, bits, bytes, out);
     let end = (8 * wire_count(Circuit::Record { bits })) as usize;
-    check(bits, sum, &out[..end])
+    check(OUR_LIMIT, bits, sum, &out[..end])
 }
 
 // A record's assignment is produced, checked, and changed.
@@ -77,7 +78,7 @@ fn try_record(bits: u64, bytes: &[u8], room: &mut [u8])
 fn try_handed(bits: u64, bytes: &[u8], room: &mut [u8])
     requires { ⌜ length (now room) ≡ 2887688 ⌝ }
 {
-    let answer = handed(bits, bytes);
+    let answer = ask_record(OUR_LIMIT, bits, bytes);
     match answer {
         Outcome::Done => try_record(bits, bytes, room),
         Outcome::Refused(refusal) => show(bits, b"handed", Outcome::Refused(refusal)),

@@ -2,15 +2,15 @@
 use mathlib.Core.List.{List}
 use mathlib.Core.Path.{refl}
 use Prim.Native.Nat.{ℕ}
-use borrow.Author.Tests.{ltb-false}
-use lib.Dec.{ltb}
 use Rattle.circuit.specs.declared.circuits.Circuit.the-variants.{Record}
+use Rattle.limits.proofs.limit.Decided.{allowed-range, limited-holds}
+use Rattle.limits.specs.Limit.{lengthAnswer}
 use Rattle.record.specs.Check.{checkAnswer}
-use Rattle.refusal.proofs.Small.{Small, bare, tested}
-use Rattle.satisfaction.proofs.circuit_check.Small as circuit
-use Rattle.sm3.specs.Message.{mostBits}
+use Rattle.refusal.proofs.Small.{Small, bare}
+use Rattle.refusal.specs.declared.outcome.Outcome.the-variants.{Refused}
+use Rattle.satisfaction.proofs.circuit_check.Answers as circuit
 
-pub check-small : (n : ℕ) (d a : List ℕ) → Small (checkAnswer n d a)
-unfolding checkAnswer
-check-small n d a =
-    tested Small (ltb mostBits n) (bare refl) (λ e. circuit.check-small (Record n) d a (ltb-false mostBits n e))
+pub check-small : (l n : ℕ) (d a : List ℕ) → Small (checkAnswer l n d a)
+unfolding checkAnswer lengthAnswer
+check-small l n d a =
+    limited-holds Small Refused (λ x. x) _ l n (λ x small. small) (bare refl) (bare refl) (bare refl) (λ allowed. circuit.check-small (Record n) d a (allowed-range allowed))

@@ -12,9 +12,10 @@ use Rattle.circuit.specs.Wires.{frameWires, wireCount, blockFirst}
 use Rattle.circuit.specs.declared.circuits.Circuit.the-variants.{Record}
 use Rattle.encoding.proofs.Sequence.{beside-first, beside-then, grid-at}
 use Rattle.forms.proofs.exact.Runs.{Agree}
+use Rattle.limits.specs.Blocks.{blocks}
 use Rattle.record.specs.Layout.{messageWires, recordWire, wireOf}
 use Rattle.sm3.proofs.message.MessageBits.{message-content, message-padding}
-use Rattle.sm3.specs.Message.{blockBits, blocks, chainingValue, digestOf, message}
+use Rattle.sm3.specs.Message.{blockBits, chainingValue, digestOf, message}
 
 -- the record that is read off the record wires
 abbrev pub readOff : (ℕ → ℕ) → ℕ → ℕ

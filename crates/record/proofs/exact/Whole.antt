@@ -21,10 +21,11 @@ use Rattle.circuit.specs.declared.circuits.Circuit.the-variants.{Record}
 use Rattle.encoding.specs.Sequence.{grid}
 use Rattle.forms.proofs.exact.Runs.{Agree, Holds, Judged, and-given}
 use Rattle.forms.proofs.exact.Words.{bit-row}
+use Rattle.limits.specs.Blocks.{blocks}
 use Rattle.record.proofs.exact.Record.{read-off, readOff, record-wire, wires-congruent}
 use Rattle.record.specs.Layout.{messageWires, wireOf}
 use Rattle.sm3.proofs.Bounds.{chaining-words, message-lt}
-use Rattle.sm3.specs.Message.{blockBits, blocks, chainingValue, digestOf, message}
+use Rattle.sm3.specs.Message.{blockBits, chainingValue, digestOf, message}
 use Rattle.sm3.specs.Sm3.{block, start}
 
 -- each block of a message but its first begins with what the one before it gives

@@ -11,7 +11,7 @@ check-requires : tie.Need-check-requires
 check-requires c κs = search needs
 
 pack-outcome-requires : tie.Need-pack-outcome-requires
-pack-outcome-requires c κs = subst Small (sym (c .check .ensures)) (check-small _ _ _) .room
+pack-outcome-requires c κs = subst Small (sym (c .check .ensures)) (check-small _ _ _ _) .room
 
 returns : tie.Need-returns
 returns c = c .pack-outcome .ensures ∙ ap packedOutcome (c .before .check .ensures)

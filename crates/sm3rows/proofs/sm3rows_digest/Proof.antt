@@ -14,7 +14,7 @@ digest-requires c κs = search needs
 pack-outcome-requires : tie.Need-pack-outcome-requires
 pack-outcome-requires c κs =
     let a = c .before .before .before .before .before .before .args in
-    subst Small (sym (c .before .before .digest .ensures .0)) (digest-small (a .bits) (a .bytes .now) (length (a .out .now))) .room
+    subst Small (sym (c .before .before .digest .ensures .0)) (digest-small (a .limit) (a .bits) (a .bytes .now) (length (a .out .now))) .room
 
 same-length : tie.Need-same-length
 same-length c = search needs

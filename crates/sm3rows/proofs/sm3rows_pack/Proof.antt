@@ -11,7 +11,7 @@ pack-requires : tie.Need-pack-requires
 pack-requires c κs = search needs
 
 pack-outcome-requires : tie.Need-pack-outcome-requires
-pack-outcome-requires c κs = subst Small (sym (c .before .before .pack .ensures .0)) (pack-small _ _ _) .room
+pack-outcome-requires c κs = subst Small (sym (c .before .before .pack .ensures .0)) (pack-small _ _ _ _) .room
 
 same-length : tie.Need-same-length
 same-length c = search needs

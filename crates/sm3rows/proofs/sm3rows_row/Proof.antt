@@ -12,7 +12,7 @@ row-requires : tie.Need-row-requires
 row-requires c κs = search needs
 
 pack-row-requires : tie.Need-pack-row-requires
-pack-row-requires c κs = subst SmallRow (sym (c .before .before .row .ensures .0)) (row-small _ _ _)
+pack-row-requires c κs = subst SmallRow (sym (c .before .before .row .ensures .0)) (row-small _ _ _ _)
 
 same-length : tie.Need-same-length
 same-length c = search needs

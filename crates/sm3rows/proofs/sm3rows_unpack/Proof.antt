@@ -11,7 +11,7 @@ unpack-requires : tie.Need-unpack-requires
 unpack-requires c κs = search needs
 
 pack-outcome-requires : tie.Need-pack-outcome-requires
-pack-outcome-requires c κs = subst Small (sym (c .before .before .unpack .ensures .0)) (unpack-small _ _ _) .room
+pack-outcome-requires c κs = subst Small (sym (c .before .before .unpack .ensures .0)) (unpack-small _ _ _ _) .room
 
 same-length : tie.Need-same-length
 same-length c = search needs

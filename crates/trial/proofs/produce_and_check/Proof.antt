@@ -5,7 +5,8 @@ use Prim.Native.Nat.{_*_}
 use native.Mathlib.Omega.{arith}
 use lib.Seq.{length-take-le}
 use borrow.Author.Needs.{needs}
-use Rattle.sm3.specs.Handed.{IsRecord}
+use Rattle.limits.proofs.Limited.{ours-allow}
+use Rattle.limits.specs.Handed.{IsRecord}
 use Rattle.trial.proofs.Accepted.{produced-accepted}
 use Rattle.trial.proofs.produce_and_check.Statement.{statement}
 use Rattle.trial.proofs.produce_and_check.Tie as tie
@@ -49,7 +50,7 @@ returns c =
       spare = start .pre .2;
     } in
     produced-accepted (start .args .bits) (start .args .bytes .now) (start .args .out .now) (start .args .sum .now) _ _ _ (hashed .result) (made .result) (c .check .result)
-    (start .pre .0) is (start .pre .4) (start .pre .3)
+    (ours-allow _ (start .pre .0)) is (start .pre .4) (start .pre .3)
     (hashed .ensures .0) (hashed .ensures .1) (made .ensures .0) (made .ensures .1)
     (ap (λ n. 8 * n) (c .before .before .before .wire-count .ensures .0)) (c .check .ensures)
 

@@ -2,12 +2,14 @@
 use mathlib.Core.Path.{_∙_, sym}
 use borrow.Author.Needs.{needs}
 use denote.Ref.{now}
-use Rattle.sm3.proofs.handed.Asked.{handed-done}
+use Rattle.limits.proofs.handed.Asked.{handed-done}
+use Rattle.limits.proofs.limit.Decided.{allowed-range}
+use Rattle.limits.specs.Limit.{ourLimit}
 use Rattle.trial.proofs.try_handed.Statement.{statement}
 use Rattle.trial.proofs.try_handed.Tie as tie
 
-handed-requires : tie.Need-handed-requires
-handed-requires c κs = search needs
+ask-record-requires : tie.Need-ask-record-requires
+ask-record-requires c κs = search needs
 
 enum-told : tie.Need-enum-told
 enum-told c = search needs
@@ -17,8 +19,8 @@ try-record-requires c κs =
     let asked = c .before .before .before in
     let start = asked .before .before .before in
     let a = start .args in
-    let passed = handed-done (a .bits) (now (a .bytes)) .0 (sym (asked .handed .ensures) ∙ c .before .enum-told .given .1) in
-    (passed .0, passed .1 .0, passed .1 .1 .0, start .pre)
+    let passed = handed-done (a .bits) (now (a .bytes)) ourLimit .0 (sym (asked .ask-record .ensures) ∙ c .before .enum-told .given .1) in
+    (allowed-range (passed .0), passed .1 .0, passed .1 .1 .0, start .pre)
 
 enum-known-answer : tie.Need-enum-known-answer
 enum-known-answer c = search needs
@@ -42,7 +44,7 @@ pub try-handed-spec : {M : Type 1} → statement M
 try-handed-spec =
     tie.close
     (tie.spec
-    handed-requires
+    ask-record-requires
     enum-told
     try-record-requires
     enum-known-answer

@@ -7,7 +7,7 @@ use lib.Seq.{length-take-le}
 use Rattle.circuit.specs.Wires.{wireCount}
 use Rattle.circuit.specs.Wires.{firstBlock}
 use Rattle.circuit.specs.declared.circuits.Circuit.the-variants.{Record}
-use Rattle.sm3.specs.Message.{blocks}
+use Rattle.limits.specs.Blocks.{blocks}
 use borrow.Author.Needs.{needs}
 use Rattle.trial.proofs.Front.{of-front}
 use Rattle.trial.proofs.try_record.Statement.{statement}

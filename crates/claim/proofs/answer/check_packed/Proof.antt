@@ -5,9 +5,11 @@ use native.Mathlib.Omega.{arith}
 use borrow.Author.Needs.{needs}
 use lib.Seq.{length-take-le}
 use Rattle.claim.proofs.answer.Unpacked.{front-unpacked, most-bytes}
+use Rattle.limits.proofs.limit.Decided.{allowed-range}
+use Rattle.limits.specs.Blocks.{mostBits}
+use Rattle.limits.specs.Limit.{ourLimit}
 use Rattle.packing.proofs.Answers.{check-refused, check-unpacked, unpack-done}
 use Rattle.record.specs.Check.{checkAnswer}
-use Rattle.sm3.specs.Message.{mostBits}
 use Rattle.claim.proofs.answer.check_packed.Statement.{statement}
 use Rattle.claim.proofs.answer.check_packed.Tie as tie
 
@@ -36,7 +38,7 @@ enum-told c = search needs
 range : (c : tie.After-enum-told) → c .before .before .before .before .before .before .before .before .before .args .bits ≤ mostBits
 range c =
     let unpacked = c .before .before .before .before in
-    unpack-done _ _ _ .0 (sym (unpacked .unpack .ensures .0) ∙ c .enum-told .given .1) .0
+    allowed-range (unpack-done ourLimit _ _ _ .0 (sym (unpacked .unpack .ensures .0) ∙ c .enum-told .given .1) .0)
 
 wire-count-requires : tie.Need-wire-count-requires
 wire-count-requires c κs = omega (arith, range c)
@@ -65,7 +67,7 @@ returns-2 c =
     let a = start .args in
     let done = sym (unpacked .unpack .ensures .0) ∙ told .enum-told .given .1 in
     c .check .ensures
-    ∙ ap (checkAnswer (a .bits) (a .digest .now))
+    ∙ ap (checkAnswer ourLimit (a .bits) (a .digest .now))
     (front-unpacked (a .bits) (a .packed .now) (a .room .now) _ _ _ (unpacked .unpack .ensures .0) (unpacked .unpack .ensures .1)
     (ap (λ m. 8 * m) (counted .wire-count .ensures .0)) (told .enum-told .given .1))
     ∙ sym

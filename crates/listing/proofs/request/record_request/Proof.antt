@@ -1,13 +1,16 @@
--- A line that is read has numbers below 1,000,000,000; a length in range is that of a circuit that is allowed.
+-- A line that is read has numbers below 1,000,000,000; a length that our limit allows is that of a circuit that is allowed.
 use mathlib.Core.List.{List}
 use mathlib.Core.Path.{_≡_, sym, ap, _∙_}
-use Prim.Native.Nat.{ℕ, _<_}
+use Prim.Native.Nat.{ℕ}
 use borrow.Author.Needs.{needs}
-use borrow.Author.Tests.{le-ltb, lt-ltb}
-use Rattle.sm3.specs.Message.{mostBits}
+use Rattle.limits.proofs.limit.Decided.{allowed-range}
+use Rattle.limits.proofs.limit.Tests.{length-done, length-passed, length-refused}
+use Rattle.limits.specs.Limit.{lengthAnswer, ourLimit}
 use Rattle.listing.specs.Line.{parseOf}
 use Rattle.listing.specs.Request.{asked, checked}
 use Rattle.listing.specs.declared.line.Parsed.the-variants.{Numbers}
+use Rattle.listing.specs.declared.request.Request.the-variants.{Refused}
+use Rattle.refusal.specs.declared.outcome.Outcome.the-variants.{Done}
 use Rattle.listing.proofs.LineRight.{parse-right}
 use Rattle.listing.proofs.request.record_request.Statement.{statement}
 use Rattle.listing.proofs.request.record_request.Tie as tie
@@ -37,22 +40,39 @@ numbers :
     ≡ Numbers (Bits c) (c .before .leading .given .0 .1 .0) (c .before .leading .given .0 .1 .1 .0)
 numbers c = sym (c .before .before .before .parse .ensures) ∙ c .before .leading .given .1
 
+ask-length-requires : tie.Need-ask-length-requires
+ask-length-requires c κs = search needs
+
+enum-known-allowed : tie.Need-enum-known-allowed
+enum-known-allowed c = search needs
+
 returns-2 : tie.Need-returns-2
 unfolding checked
 returns-2 c =
-    let above : mostBits < Bits (c .before) = c .if1 .taken in
-    sym (ap asked (numbers (c .before)) ∙ rw (lt-ltb _ _ above))
+    let asked-length = c .before .before .before in
+    sym
+    (ap asked (numbers (asked-length .before))
+    ∙ length-refused Refused _ ourLimit _ _ (sym (asked-length .ask-length .ensures) ∙ c .before .allowed .given .1))
+
+enum-told-2 : tie.Need-enum-told-2
+enum-told-2 c = search needs
+
+-- our limit allows the length
+allowed : (c : tie.After-enum-told2) → lengthAnswer ourLimit (Bits (c .before .before .before)) Done ≡ Done
+allowed c = sym (c .before .before .ask-length .ensures) ∙ c .enum-told2 .given .1
 
 within-requires : tie.Need-within-requires
 within-requires c κs =
-    let right = parse-right (Line (c .before)) _ _ _ .0 (numbers (c .before)) in
-    (c .if1 .left, right .1, right .2)
+    let read = c .before .before .before in
+    let right = parse-right (Line read) _ _ _ .0 (numbers read) in
+    (allowed-range (length-done ourLimit _ .0 (allowed c) .0), right .1, right .2)
 
 returns-3 : tie.Need-returns-3
 unfolding checked
 returns-3 c =
-    let past = c .before in
-    c .within .ensures ∙ sym (ap asked (numbers (past .before)) ∙ rw (le-ltb _ _ (past .if1 .left)))
+    let told = c .before in
+    c .within .ensures
+    ∙ sym (ap asked (numbers (told .before .before .before)) ∙ length-passed Refused _ ourLimit _ (allowed told))
 
 pub record-request-spec : {M : Type 1} → statement M
 record-request-spec =
@@ -62,6 +82,9 @@ record-request-spec =
     enum-known-leading
     enum-told
     returns
+    ask-length-requires
+    enum-known-allowed
     returns-2
+    enum-told-2
     within-requires
     returns-3)

@@ -9,13 +9,14 @@ use lib.ListN.{length}
 use Rattle.assignment.proofs.Writes.{wrote-front}
 use Rattle.circuit.specs.Wires.{wireCount}
 use Rattle.circuit.specs.declared.circuits.Circuit.the-variants.{Record}
+use Rattle.limits.proofs.handed.Asked.{handed-done, handed-tests}
+use Rattle.limits.proofs.limit.Decided.{allowed-range}
 use Rattle.record.specs.Produce.{assignmentOf}
-use Rattle.sm3.proofs.handed.Asked.{handed-done, handed-tests}
 use Rattle.record.proofs.produce.produce.Statement.{statement}
 use Rattle.record.proofs.produce.produce.Tie as tie
 
-handed-requires : tie.Need-handed-requires
-handed-requires c κs = search needs
+ask-record-requires : tie.Need-ask-record-requires
+ask-record-requires c κs = search needs
 
 enum-known-answer : tie.Need-enum-known-answer
 enum-known-answer c = search needs
@@ -24,7 +25,7 @@ returns : tie.Need-returns
 returns c =
     let asked = c .before .before .before in
     let a = asked .before .before .before .args in
-    (sym (handed-tests (a .bits) (now (a .bytes)) .stands _ _ (sym (asked .handed .ensures) ∙ c .before .answer .given .1)), refl)
+    (sym (handed-tests (a .bits) (now (a .bytes)) (a .limit) .stands _ _ (sym (asked .ask-record .ensures) ∙ c .before .answer .given .1)), refl)
 
 enum-told : tie.Need-enum-told
 enum-told c = search needs
@@ -33,7 +34,7 @@ wire-count-requires : tie.Need-wire-count-requires
 wire-count-requires c κs =
     let asked = c .before .before in
     let a = asked .before .before .before .args in
-    handed-done (a .bits) (now (a .bytes)) .0 (sym (asked .handed .ensures) ∙ c .enum-told .given .1) .0
+    allowed-range (handed-done (a .bits) (now (a .bytes)) (a .limit) .0 (sym (asked .ask-record .ensures) ∙ c .enum-told .given .1) .0)
 
 mul-if1 : tie.Need-mul-if1
 mul-if1 c = search needs
@@ -45,7 +46,7 @@ returns-2 c =
     let a = asked .before .before .before .args in
     let short : length (now (a .out)) < 8 * wireCount (Record (a .bits)) = omega arith in (
       sym
-          (handed-tests (a .bits) (now (a .bytes)) .passed _ (sym (asked .handed .ensures) ∙ told .enum-told .given .1)
+          (handed-tests (a .bits) (now (a .bytes)) (a .limit) .passed _ (sym (asked .ask-record .ensures) ∙ told .enum-told .given .1)
           ∙ simp (lt-ltb _ _ short)),
       refl,
     )
@@ -55,8 +56,8 @@ put-assignment-requires c κs =
     let told = c .before .before .before in
     let asked = told .before .before in
     let a = asked .before .before .before .args in
-    let passed = handed-done (a .bits) (now (a .bytes)) .0 (sym (asked .handed .ensures) ∙ told .enum-told .given .1) in
-    (passed .0, passed .1 .0, omega arith)
+    let passed = handed-done (a .bits) (now (a .bytes)) (a .limit) .0 (sym (asked .ask-record .ensures) ∙ told .enum-told .given .1) in
+    (allowed-range (passed .0), passed .1 .0, omega arith)
 
 same-length : tie.Need-same-length
 same-length c = search needs
@@ -70,7 +71,7 @@ returns-3 c =
     let a = asked .before .before .before .args in
     let fits : 8 * wireCount (Record (a .bits)) ≤ length (now (a .out)) = omega arith in (
       sym
-          (handed-tests (a .bits) (now (a .bytes)) .passed _ (sym (asked .handed .ensures) ∙ told .enum-told .given .1)
+          (handed-tests (a .bits) (now (a .bytes)) (a .limit) .passed _ (sym (asked .ask-record .ensures) ∙ told .enum-told .given .1)
           ∙ simp (le-ltb _ _ fits)),
       wrote-front fits (c .before .before .put-assignment .ensures),
     )
@@ -79,7 +80,7 @@ pub produce-spec : {M : Type 1} → statement M
 produce-spec =
     tie.close
     (tie.spec
-    handed-requires
+    ask-record-requires
     enum-known-answer
     returns
     enum-told

@@ -10,8 +10,8 @@ use Rattle.block.specs.Wires.{wiresPerBlock}
 use Rattle.circuit.specs.Wires.{frameWires, wireCount, digestFirst, firstBlock, startFirst}
 use Rattle.circuit.specs.declared.circuits.Circuit.the-variants.{Record}
 use Rattle.encoding.specs.Bits.{bitOfBytes}
+use Rattle.limits.specs.Blocks.{blocks}
 use Rattle.record.specs.Layout.{wireOf}
-use Rattle.sm3.specs.Message.{blocks}
 use denote.Ref.{now}
 use Rattle.record.proofs.produce.put_assignment.Statement.{statement}
 use Rattle.record.proofs.produce.put_assignment.Tie as tie

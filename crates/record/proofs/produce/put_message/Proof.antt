@@ -13,9 +13,10 @@ use Rattle.circuit.specs.Wires.{wireCount, firstBlock}
 use Rattle.encoding.proofs.Bits.{bit-of-bytes-lt}
 use Rattle.encoding.specs.Bits.{bitOfBytes}
 use Rattle.encoding.specs.Sequence.{grid}
+use Rattle.limits.specs.Blocks.{blocks}
 use Rattle.record.specs.Layout.{messageWires}
 use Rattle.sm3.proofs.Bounds.{message-lt}
-use Rattle.sm3.specs.Message.{blockBits, blocks, chainingValue, digestOf, message}
+use Rattle.sm3.specs.Message.{blockBits, chainingValue, digestOf, message}
 use Rattle.sm3.specs.Sm3.{block}
 use Rattle.record.proofs.produce.put_message.Statement.{statement}
 use Rattle.record.proofs.produce.put_message.Tie as tie

@@ -1,7 +1,7 @@
 -- A record's bits and the first bit of its padding lie within its blocks.
 use native.Mathlib.Omega.{arith}
 use Rattle.circuit.specs.Wires.{wireCount}
-use Rattle.sm3.specs.Message.{blocks}
+use Rattle.limits.specs.Blocks.{blocks}
 use borrow.Author.Needs.{needs}
 use Rattle.trial.proofs.changes.message_wire.Statement.{statement}
 use Rattle.trial.proofs.changes.message_wire.Tie as tie
