@@ -22,7 +22,7 @@ static EVP_MD_CTX *context;
 
 static void by_digest(uint64_t bits)
 {
-    go_on(sm3rows_digest(bits, record, SM3ROWS_RECORD_BYTES(bits), digest, sizeof digest));
+    go_on(sm3rows_digest(LIMIT, bits, record, SM3ROWS_RECORD_BYTES(bits), digest, sizeof digest));
 }
 
 static void by_openssl(uint64_t bits)
@@ -42,17 +42,17 @@ static void by_row(uint64_t bits)
 {
     uint8_t out[SM3ROWS_ROW_BYTES];
     for (uint64_t row = 0; row < SM3ROWS_ROWS(bits); row++)
-        go_on(sm3rows_row(bits, row, out, sizeof out));
+        go_on(sm3rows_row(LIMIT, bits, row, out, sizeof out));
 }
 
 static void by_produce(uint64_t bits)
 {
-    go_on(sm3rows_produce(bits, record, SM3ROWS_RECORD_BYTES(bits), (uint8_t *)assignment, sizeof assignment));
+    go_on(sm3rows_produce(LIMIT, bits, record, SM3ROWS_RECORD_BYTES(bits), (uint8_t *)assignment, sizeof assignment));
 }
 
 static void by_pack(uint64_t bits)
 {
-    go_on(sm3rows_pack(bits, (uint8_t *)assignment, SM3ROWS_ASSIGNMENT_BYTES(bits), packed, sizeof packed));
+    go_on(sm3rows_pack(LIMIT, bits, (uint8_t *)assignment, SM3ROWS_ASSIGNMENT_BYTES(bits), packed, sizeof packed));
 }
 
 static void by_c_pack(uint64_t bits)
@@ -62,7 +62,7 @@ static void by_c_pack(uint64_t bits)
 
 static void by_unpack(uint64_t bits)
 {
-    go_on(sm3rows_unpack(bits, packed, SM3ROWS_PACKED_BYTES(bits), (uint8_t *)assignment, sizeof assignment));
+    go_on(sm3rows_unpack(LIMIT, bits, packed, SM3ROWS_PACKED_BYTES(bits), (uint8_t *)assignment, sizeof assignment));
 }
 
 static void by_c_unpack(uint64_t bits)
@@ -72,7 +72,7 @@ static void by_c_unpack(uint64_t bits)
 
 static void by_check(uint64_t bits)
 {
-    go_on(sm3rows_check(bits, digest, sizeof digest, (uint8_t *)assignment, SM3ROWS_ASSIGNMENT_BYTES(bits)));
+    go_on(sm3rows_check(LIMIT, bits, digest, sizeof digest, (uint8_t *)assignment, SM3ROWS_ASSIGNMENT_BYTES(bits)));
 }
 
 static void by_read(uint64_t bits)

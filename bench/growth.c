@@ -29,7 +29,7 @@ static uint8_t record[RECORD_MOST], *memory[2];
 static void produce(uint64_t blocks, uint8_t *out)
 {
     uint64_t bits = 512 * blocks - 72;
-    go_on(sm3rows_produce(bits, record, SM3ROWS_RECORD_BYTES(bits), out, SM3ROWS_ASSIGNMENT_BYTES(bits)));
+    go_on(sm3rows_produce(LIMIT, bits, record, SM3ROWS_RECORD_BYTES(bits), out, SM3ROWS_ASSIGNMENT_BYTES(bits)));
 }
 
 /* Processor time of this thread in nanoseconds. */

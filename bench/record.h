@@ -1,4 +1,4 @@
-/* What the C programs here share: their record, and that no call is refused. */
+/* What the C programs here share: their limit and their record, and that no call is refused. */
 
 #ifndef RECORD_H
 #define RECORD_H
@@ -9,6 +9,7 @@
 
 #include "sm3rows.h"
 
+enum { LIMIT = SM3ROWS_LIMIT_OURS }; /* in blocks, of every call that takes one: it allows every length */
 enum { RECORD_MOST = SM3ROWS_RECORD_BYTES(SM3ROWS_MOST_BITS) };
 
 /* A record of so many bits: after its last bit come zeros. */

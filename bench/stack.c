@@ -22,7 +22,7 @@ static uint8_t digest[SM3ROWS_DIGEST_BYTES], *stack;
 /* One call of each function for a record of so many bits; what it answered. */
 static uint64_t call_digest(uint64_t bits)
 {
-    return sm3rows_digest(bits, record, SM3ROWS_RECORD_BYTES(bits), digest, sizeof digest);
+    return sm3rows_digest(LIMIT, bits, record, SM3ROWS_RECORD_BYTES(bits), digest, sizeof digest);
 }
 
 static uint64_t call_row(uint64_t bits)
@@ -30,34 +30,34 @@ static uint64_t call_row(uint64_t bits)
     /* Rows of all forms: a step that meets every place of a block. */
     uint64_t refusals = 0;
     for (uint64_t row = 0; row < SM3ROWS_ROWS(bits); row += 31)
-        refusals |= SM3ROWS_REFUSAL(sm3rows_row(bits, row, out, sizeof out));
+        refusals |= SM3ROWS_REFUSAL(sm3rows_row(LIMIT, bits, row, out, sizeof out));
     return refusals;
 }
 
 static uint64_t call_produce(uint64_t bits)
 {
-    return sm3rows_produce(bits, record, SM3ROWS_RECORD_BYTES(bits), out, sizeof out);
+    return sm3rows_produce(LIMIT, bits, record, SM3ROWS_RECORD_BYTES(bits), out, sizeof out);
 }
 
 /* A right claim, and the same with its last entry turned over: rows are judged by their terms only where one fails. */
 static uint64_t call_check(uint64_t bits)
 {
     size_t size = SM3ROWS_ASSIGNMENT_BYTES(bits);
-    uint64_t right = sm3rows_check(bits, digest, sizeof digest, out, size);
+    uint64_t right = sm3rows_check(LIMIT, bits, digest, sizeof digest, out, size);
     out[size - 8] ^= 1;
-    uint64_t wrong = sm3rows_check(bits, digest, sizeof digest, out, size);
+    uint64_t wrong = sm3rows_check(LIMIT, bits, digest, sizeof digest, out, size);
     out[size - 8] ^= 1;
     return right | (SM3ROWS_REFUSAL(wrong) != 9);
 }
 
 static uint64_t call_pack(uint64_t bits)
 {
-    return sm3rows_pack(bits, out, SM3ROWS_ASSIGNMENT_BYTES(bits), packed, sizeof packed);
+    return sm3rows_pack(LIMIT, bits, out, SM3ROWS_ASSIGNMENT_BYTES(bits), packed, sizeof packed);
 }
 
 static uint64_t call_unpack(uint64_t bits)
 {
-    return sm3rows_unpack(bits, packed, SM3ROWS_PACKED_BYTES(bits), out, sizeof out);
+    return sm3rows_unpack(LIMIT, bits, packed, SM3ROWS_PACKED_BYTES(bits), out, sizeof out);
 }
 
 /* The same of the passage product, whose lines have one length. */

@@ -1,8 +1,8 @@
 /* Seals a record and checks it, as a C host does: the digest, the assignment, the check, the assignment packed for a disk
  * and unpacked again to the same bytes, and what packing and the check say once an entry of the assignment was changed,
  * with a term of the row that then fails. Usage: host [TEXT [BITS]]; the record is the text, or its first so many bits.
- * Without a text there are two records, one of whole bytes and a tag that ends inside a byte, and what is said of bytes
- * that do not fit the tag's bits. Builds by examples/run.sh. */
+ * Without a text there are two records, one of whole bytes and a tag that ends inside a byte, what is said of bytes that
+ * do not fit the tag's bits, and what a partner road gets that takes two blocks at most. Builds by examples/run.sh. */
 
 #include <inttypes.h>
 #include <stdio.h>
@@ -45,10 +45,10 @@ static struct claim seal(uint64_t bits, const uint8_t *record)
 {
     struct claim claim = {.bits = bits};
     size_t bytes = SM3ROWS_RECORD_BYTES(bits);
-    go_on("digest", sm3rows_digest(bits, record, bytes, claim.digest, sizeof claim.digest));
+    go_on("digest", sm3rows_digest(SM3ROWS_LIMIT_OURS, bits, record, bytes, claim.digest, sizeof claim.digest));
     claim.assignment_size = SM3ROWS_ASSIGNMENT_BYTES(bits);
     claim.assignment = room(claim.assignment_size);
-    go_on("produce", sm3rows_produce(bits, record, bytes, claim.assignment, claim.assignment_size));
+    go_on("produce", sm3rows_produce(SM3ROWS_LIMIT_OURS, bits, record, bytes, claim.assignment, claim.assignment_size));
 
     printf("record   %" PRIu64 " bits in %zu bytes, %" PRIu64 " wires, %" PRIu64 " rows\n", bits, bytes,
            SM3ROWS_WIRES(bits), SM3ROWS_ROWS(bits));
@@ -61,7 +61,8 @@ static struct claim seal(uint64_t bits, const uint8_t *record)
 
 static uint64_t check(const struct claim *claim)
 {
-    return sm3rows_check(claim->bits, claim->digest, sizeof claim->digest, claim->assignment, claim->assignment_size);
+    return sm3rows_check(SM3ROWS_LIMIT_OURS, claim->bits, claim->digest, sizeof claim->digest, claim->assignment,
+                         claim->assignment_size);
 }
 
 /* An answer of 0 says that the assignment belongs to the digest. */
@@ -74,7 +75,7 @@ static int accepted(const struct claim *claim)
 
 static uint64_t pack(const struct claim *claim, uint8_t *packed)
 {
-    return sm3rows_pack(claim->bits, claim->assignment, claim->assignment_size, packed,
+    return sm3rows_pack(SM3ROWS_LIMIT_OURS, claim->bits, claim->assignment, claim->assignment_size, packed,
                         SM3ROWS_PACKED_BYTES(claim->bits));
 }
 
@@ -85,7 +86,7 @@ static int store(const struct claim *claim)
     uint8_t *packed = room(size), *unpacked = room(claim->assignment_size);
     go_on("pack", pack(claim, packed));
     printf("packed   %zu bytes instead of %zu\n", size, claim->assignment_size);
-    go_on("unpack", sm3rows_unpack(claim->bits, packed, size, unpacked, claim->assignment_size));
+    go_on("unpack", sm3rows_unpack(SM3ROWS_LIMIT_OURS, claim->bits, packed, size, unpacked, claim->assignment_size));
     int same = memcmp(unpacked, claim->assignment, claim->assignment_size) == 0;
     free(packed);
     free(unpacked);
@@ -146,7 +147,7 @@ static int name_row(const struct claim *claim)
     claim->assignment[8 * WIRE] ^= 1;
     uint64_t failed = check(claim);
     printf("damaged  refusal %u, row %" PRIu64 "\n", SM3ROWS_REFUSAL(failed), SM3ROWS_FAILING_ROW(failed));
-    uint64_t answer = sm3rows_row(claim->bits, SM3ROWS_FAILING_ROW(failed), row, sizeof row);
+    uint64_t answer = sm3rows_row(SM3ROWS_LIMIT_OURS, claim->bits, SM3ROWS_FAILING_ROW(failed), row, sizeof row);
     go_on("row", answer);
     printf("the row  %u terms in A, %u in B, %u in C\n", SM3ROWS_COUNT_A(answer), SM3ROWS_COUNT_B(answer),
            SM3ROWS_COUNT_C(answer));
@@ -171,11 +172,43 @@ static int name_wrong_bytes(void)
     uint8_t digest[SM3ROWS_DIGEST_BYTES], spare[TAG_BYTES];
     memcpy(spare, tag, sizeof spare);
     spare[TAG_BYTES - 1] |= 1;
-    uint64_t few = sm3rows_digest(TAG_BITS, tag, TAG_BYTES - 1, digest, sizeof digest);
-    uint64_t set = sm3rows_digest(TAG_BITS, spare, TAG_BYTES, digest, sizeof digest);
+    uint64_t few = sm3rows_digest(SM3ROWS_LIMIT_OURS, TAG_BITS, tag, TAG_BYTES - 1, digest, sizeof digest);
+    uint64_t set = sm3rows_digest(SM3ROWS_LIMIT_OURS, TAG_BITS, spare, TAG_BYTES, digest, sizeof digest);
     printf("the tag  in %d bytes refusal %u, with a spare bit set refusal %u\n", TAG_BYTES - 1, SM3ROWS_REFUSAL(few),
            SM3ROWS_REFUSAL(set));
     return SM3ROWS_REFUSAL(few) == 13 && SM3ROWS_REFUSAL(set) == 14;
+}
+
+/* A partner road takes two blocks at most. A record of three is refused under its limit and digested under ours. */
+static int name_limit(void)
+{
+    enum { BITS = 1016 };
+    uint8_t record[SM3ROWS_RECORD_BYTES(BITS)], digest[SM3ROWS_DIGEST_BYTES];
+    memset(record, 'a', sizeof record);
+    uint64_t two = sm3rows_digest(SM3ROWS_LIMIT_PARTNER, BITS, record, sizeof record, digest, sizeof digest);
+    uint64_t sixteen = sm3rows_digest(SM3ROWS_LIMIT_OURS, BITS, record, sizeof record, digest, sizeof digest);
+    printf("partner  %d bits are %" PRIu64 " blocks: at a limit of %u refusal %u, at %u %s\n", BITS,
+           SM3ROWS_BLOCKS(BITS), SM3ROWS_LIMIT_PARTNER, SM3ROWS_REFUSAL(two), SM3ROWS_LIMIT_OURS,
+           sixteen == 0 ? "digested" : "REFUSED");
+    return two == 22 && sixteen == 0;
+}
+
+/* The most bits that the partner takes: each row for them is the same bytes under both limits, so that one copy of the
+ * rows serves both roads. */
+static int share_rows(void)
+{
+    uint64_t bits = SM3ROWS_LIMIT_BITS(SM3ROWS_LIMIT_PARTNER);
+    uint8_t two[SM3ROWS_ROW_BYTES] = {0}, sixteen[SM3ROWS_ROW_BYTES] = {0};
+    int same = 1;
+    for (uint64_t row = 0; row < SM3ROWS_ROWS(bits); row++) {
+        uint64_t answer = sm3rows_row(SM3ROWS_LIMIT_PARTNER, bits, row, two, sizeof two);
+        go_on("row", answer);
+        same &= sm3rows_row(SM3ROWS_LIMIT_OURS, bits, row, sixteen, sizeof sixteen) == answer;
+        same &= memcmp(two, sixteen, sizeof two) == 0;
+    }
+    printf("         %" PRIu64 " bits have %" PRIu64 " rows, %s at both limits\n", bits, SM3ROWS_ROWS(bits),
+           same ? "the same" : "OTHERS");
+    return same;
 }
 
 /* The first so many bits of a text, which has them: what stands behind them in the last byte is cleared. The record is in
@@ -203,5 +236,7 @@ int main(int argc, char **argv)
     int right = go_through(8 * strlen(passage), (const uint8_t *)passage); /* a byte is 8 bits */
     right &= go_through(TAG_BITS, tag);
     right &= name_wrong_bytes();
+    right &= name_limit();
+    right &= share_rows();
     return right ? EXIT_SUCCESS : EXIT_FAILURE;
 }

@@ -12,6 +12,7 @@
 #include "must.h"
 #include "sm3rows.h"
 
+enum { LIMIT = SM3ROWS_LIMIT_PARTNER }; /* in blocks: the one that the three use themselves */
 enum { BITS = SM3ROWS_AXLES_BITS, RECORD = SM3ROWS_AXLES_RECORD_BYTES, DIGEST = SM3ROWS_DIGEST_BYTES };
 enum { WIRES = SM3ROWS_AXLES_WIRES, ROWS = SM3ROWS_AXLES_ROWS, ASSIGNMENT = SM3ROWS_AXLES_ASSIGNMENT_BYTES };
 enum { RECORD_WIRES = SM3ROWS_WIRES(BITS), RECORD_ROWS = SM3ROWS_ROWS(BITS) }; /* behind them stands what is appended */
@@ -157,7 +158,8 @@ static void is_row(uint64_t number, uint64_t answer, const uint8_t *out, size_t 
     MUST(filled(end, out_len - (size_t)(end - out)));
     if (number < RECORD_ROWS) {
         uint8_t same[SM3ROWS_ROW_BYTES];
-        MUST(sm3rows_row(BITS, number, same, sizeof same) == answer && memcmp(out, same, (size_t)(end - out)) == 0);
+        MUST(sm3rows_row(LIMIT, BITS, number, same, sizeof same) == answer);
+        MUST(memcmp(out, same, (size_t)(end - out)) == 0);
     }
 }
 
@@ -211,18 +213,18 @@ static void is_assignment(struct bounds bounds, const uint8_t *record, const uin
 {
     uint8_t sealed[DIGEST];
     uint64_t all = axles(record);
-    MUST(sm3rows_produce(BITS, record, RECORD, rights, ASSIGNMENT) == 0);
+    MUST(sm3rows_produce(LIMIT, BITS, record, RECORD, rights, ASSIGNMENT) == 0);
     MUST(memcmp(out, rights, 8 * RECORD_WIRES) == 0);
     size_t wire = is_number(out, RECORD_WIRES, 4, 9 - all / 10);
     wire = is_number(out, wire, 4, 9 - all % 10);
     wire = is_number(out, wire, 7, all - bounds.lower);
     MUST(is_number(out, wire, 7, bounds.upper - all) == WIRES);
-    MUST(sm3rows_digest(BITS, record, RECORD, sealed, sizeof sealed) == 0);
+    MUST(sm3rows_digest(LIMIT, BITS, record, RECORD, sealed, sizeof sealed) == 0);
     for (size_t number = 0; number < 8 * DIGEST; number++)
         MUST(entry(out, 1 + number) == bit(sealed, number));
     MUST(check_for(bounds, sealed, out) == 0);
-    MUST(sm3rows_check(BITS, sealed, sizeof sealed, out, 8 * RECORD_WIRES) == 0);
-    MUST(sm3rows_check(BITS, sealed, sizeof sealed, out, ASSIGNMENT) == 6);
+    MUST(sm3rows_check(LIMIT, BITS, sealed, sizeof sealed, out, 8 * RECORD_WIRES) == 0);
+    MUST(sm3rows_check(LIMIT, BITS, sealed, sizeof sealed, out, ASSIGNMENT) == 6);
 }
 
 static void produce(struct input *in)
@@ -275,7 +277,7 @@ static size_t put_number(uint8_t *assignment, size_t wire, size_t bits, uint64_t
 static void put_claim(struct bounds bounds, const uint8_t record[RECORD])
 {
     uint64_t all = axles(record);
-    MUST(sm3rows_produce(BITS, record, RECORD, claims, ASSIGNMENT) == 0);
+    MUST(sm3rows_produce(LIMIT, BITS, record, RECORD, claims, ASSIGNMENT) == 0);
     size_t wire = put_number(claims, RECORD_WIRES, 4, 9u - (record[TENS] & 15u));
     wire = put_number(claims, wire, 4, 9u - (record[UNITS] & 15u));
     wire = put_number(claims, wire, 7, all - bounds.lower);
@@ -294,7 +296,7 @@ static void take_claim(struct input *in, struct bounds own, uint8_t record[RECOR
     size_t at = changes & 128 ? take(in, 1) % DIGEST : 0;
     uint8_t other = changes & 128 ? (uint8_t)take(in, 1) : 0;
     take_others(in, record);
-    MUST(sm3rows_digest(BITS, record, RECORD, sealed, DIGEST) == 0);
+    MUST(sm3rows_digest(LIMIT, BITS, record, RECORD, sealed, DIGEST) == 0);
     put_claim(own, record);
     memset(claims + ASSIGNMENT, 0, 128);
     for (unsigned k = 0; k < changes % 8; k++)

@@ -1,9 +1,10 @@
-/* libFuzzer harness for the six functions of include/sm3rows.h that take a record's bits.
+/* libFuzzer harness for the six functions of include/sm3rows.h that take a limit in blocks and a record's bits.
  *
- * An input is read as one call: a byte for the function, then its numbers, then bytes for its slices. The archive is not
- * instrumented, so the harness looks for faults itself: every slice ends at a page that cannot be touched, or begins
- * after one, so that a byte read or written outside stops the run; and every answer is held against what the paper says
- * of it. */
+ * An input is read as one call: a byte for the function, then its numbers, the limit first, then bytes for its slices.
+ * The archive is not instrumented, so the harness looks for faults itself: every slice ends at a page that cannot be
+ * touched, or begins after one, so that a byte read or written outside stops the run; and every answer is held against
+ * what the paper says of it. A call that its limit does not turn away is made again under a limit of sixteen blocks, and
+ * must give the same answer and bytes. */
 
 #include <stdint.h>
 #include <string.h>
@@ -12,17 +13,68 @@
 #include "must.h"
 #include "sm3rows.h"
 
+enum { OURS = SM3ROWS_LIMIT_OURS };           /* the limit that allows every length */
 enum { MOST_BITS = 8127, MOST_BYTES = 1100 }; /* the most bits of a record; more bytes than they take */
 
 static uint8_t *records, *outs, *digests, *assignments, *rights, *claims; /* a room for each */
 
-static unsigned long seen[21]; /* calls by refusal, 0 for none */
+static unsigned long seen[23]; /* calls by refusal, 0 for none */
+static unsigned long alike;    /* calls under another limit than ours that were answered as under ours */
+
+/* ---- Limits ---- */
+
+/* A limit in blocks: mostly ours, the partner's or any from 1 to 16; seldom one beside these, one that is in range only
+ * for who drops its upper bits, or any number. */
+static uint64_t take_limit(struct input *in)
+{
+    static const uint64_t wrong[] = {0, 17, ((uint64_t)1 << 32) + 2, UINT64_MAX};
+    uint64_t how = take(in, 1);
+    if (how < 96)
+        return OURS;
+    if (how < 108)
+        return wrong[how % 4];
+    if (how < 112)
+        return how < 111 ? 1 + how % 16 + ((uint64_t)1 << (5 + take(in, 1) % 59)) : take(in, 8);
+    return how < 176 ? SM3ROWS_LIMIT_PARTNER : 1 + how % 16;
+}
+
+/* The paper's refusals of a limit and a length: 21, 2, 22. */
+static unsigned length_refusal(uint64_t limit, uint64_t bits)
+{
+    if (limit < 1 || limit > 16)
+        return 21;
+    if (bits > MOST_BITS)
+        return 2;
+    return (bits + 64) / 512 + 1 > limit ? 22 : 0;
+}
+
+/* Whether a call must give what it gives under our limit: its own did not turn it away. */
+static int as_ours(uint64_t limit, uint64_t answer)
+{
+    if (SM3ROWS_REFUSAL(answer) == 21 || SM3ROWS_REFUSAL(answer) == 22)
+        return 0;
+    alike += limit != OURS;
+    return 1;
+}
+
+/* The buffer of the call under our limit, as the call's own was before. */
+static uint8_t *filled_again(size_t length)
+{
+    fill(rights, length);
+    return rights;
+}
+
+static int same(const uint8_t *bytes, const uint8_t *others, size_t length)
+{
+    return length == 0 || memcmp(bytes, others, length) == 0;
+}
 
 /* ---- Records: bits, bytes, and what stands after the last bit ---- */
 
-/* A number of bits: mostly few, since many take long; beside a number where the blocks, the bytes or the refusals change;
- * any that may be in range; or one that is in range only for who drops its upper bits, or what passes 2^64 on the way. */
-static uint64_t take_bits(struct input *in)
+/* A number of bits: mostly few, since many take long; beside a number where the blocks, the bytes or the refusals change,
+ * at the limit too; any that may be in range; or one that is in range only for who drops its upper bits, or what passes
+ * 2^64 on the way. */
+static uint64_t take_bits(struct input *in, uint64_t limit)
 {
     static const uint64_t borders[] = {0, 448, 512, 960, 8064, 8120, 8128};
     static const uint64_t wide[] = {1 << 13, 1 << 16, (uint64_t)1 << 32, (uint64_t)1 << 35,
@@ -30,8 +82,10 @@ static uint64_t take_bits(struct input *in)
     uint64_t how = take(in, 1);
     if (how < 112)
         return take(in, 2) % 448;
-    if (how < 208)
+    if (how < 168)
         return borders[how % 7] + take(in, 1) % 16 - 8;
+    if (how < 208)
+        return 512 * limit - 64 + take(in, 1) % 16 - 8;
     if (how < 232)
         return take(in, 2) % 8200;
     return how < 248 ? wide[how % 7] + take(in, 2) % 8400 - 200 : take(in, 8);
@@ -67,17 +121,18 @@ static const uint8_t *take_record(struct input *in, uint64_t bits, size_t length
     return record;
 }
 
-/* The paper's refusals of a record: 2, 13, 14. */
-static unsigned record_refusal(uint64_t bits, const uint8_t *record, size_t length)
+/* The paper's refusals of a record: 21, 2, 13, 14, 22. */
+static unsigned record_refusal(uint64_t limit, uint64_t bits, const uint8_t *record, size_t length)
 {
-    if (bits > MOST_BITS)
-        return 2;
+    unsigned refusal = length_refusal(limit, bits);
+    if (refusal == 21 || refusal == 2)
+        return refusal;
     if (length != bits / 8 + (bits % 8 > 0))
         return 13;
     for (size_t number = bits; number < 8 * length; number++)
         if (bit(record, number) != 0)
             return 14;
-    return 0;
+    return refusal;
 }
 
 /* A bit of a record's message: the record, one bit 1, zeros, then the bits in 64 bits. */
@@ -93,23 +148,23 @@ static uint64_t message_bit(uint64_t bits, const uint8_t *record, uint64_t numbe
 
 static void digest(struct input *in)
 {
-    uint64_t bits = take_bits(in);
+    uint64_t limit = take_limit(in), bits = take_bits(in, limit);
     size_t length = take_record_len(in, bits), out_len = take(in, 1) % 72;
-    uint8_t *out = slice(outs, out_len, take(in, 1)), again[32];
+    uint8_t *out = slice(outs, out_len, take(in, 1));
     const uint8_t *record = take_record(in, bits, length);
-    unsigned refusal = record_refusal(bits, record, length);
+    unsigned refusal = record_refusal(limit, bits, record, length);
     if (refusal == 0 && out_len < 32)
         refusal = 4;
     fill(out, out_len);
     seen[refusal]++;
-    MUST(sm3rows_digest(bits, record, length, out, out_len) == refusal);
+    MUST(sm3rows_digest(limit, bits, record, length, out, out_len) == refusal);
     MUST(filled(out + (refusal == 0 ? 32 : 0), out_len - (refusal == 0 ? 32 : 0)));
-    if (refusal != 0)
-        return;
-    MUST(sm3rows_digest(bits, record, length, again, sizeof again) == 0 && memcmp(out, again, 32) == 0);
+    if (as_ours(limit, refusal))
+        MUST(sm3rows_digest(OURS, bits, record, length, filled_again(out_len), out_len) == refusal &&
+             same(out, rights, out_len));
     /* The same bytes are another record where all of their bits count. */
-    if (bits % 8 > 0 && 8 * length <= MOST_BITS)
-        MUST(sm3rows_digest(8 * length, record, length, again, sizeof again) == 0 && memcmp(out, again, 32) != 0);
+    if (refusal == 0 && bits % 8 > 0 && 8 * length <= MOST_BITS)
+        MUST(sm3rows_digest(OURS, 8 * length, record, length, rights, 32) == 0 && memcmp(out, rights, 32) != 0);
 }
 
 /* A row: that of a message bit near the last record bit, one near the row count, or any. */
@@ -130,16 +185,20 @@ static int block_bit_form(uint64_t bits, uint64_t number, unsigned terms_of_b)
 
 static void row(struct input *in)
 {
-    uint64_t bits = take_bits(in);
+    uint64_t limit = take_limit(in), bits = take_bits(in, limit);
     uint64_t rows = bits <= MOST_BITS ? SM3ROWS_ROWS(bits) : 0;
     uint64_t number = take_row(in, bits, rows);
     size_t out_len = take(in, 1) < 128 ? 1956 : take(in, 2) % 4000;
     uint8_t *out = slice(outs, out_len, take(in, 1));
     fill(out, out_len);
-    uint64_t answer = sm3rows_row(bits, number, out, out_len);
-    unsigned refusal = bits > MOST_BITS ? 2 : number >= rows ? 3 : out_len < 1956 ? 4 : 0;
+    uint64_t answer = sm3rows_row(limit, bits, number, out, out_len);
+    unsigned refusal = length_refusal(limit, bits);
+    if (refusal == 0)
+        refusal = number >= rows ? 3 : out_len < 1956 ? 4 : 0;
     seen[refusal]++;
     MUST(SM3ROWS_REFUSAL(answer) == refusal);
+    if (as_ours(limit, answer))
+        MUST(sm3rows_row(OURS, bits, number, filled_again(out_len), out_len) == answer && same(out, rights, out_len));
     if (refusal != 0) {
         MUST(answer == refusal && filled(out, out_len));
         return;
@@ -165,7 +224,7 @@ static size_t packed_bytes(uint64_t bits)
 
 /* What the paper says of some wires of a record's assignment: all are 0 or 1, the block bits are the message's, and
  * wires 1 to 256 are the digest, against which the check accepts. */
-static void is_assignment(const uint8_t *out, uint64_t bits, const uint8_t *record, size_t length)
+static void is_assignment(const uint8_t *out, uint64_t limit, uint64_t bits, const uint8_t *record, size_t length)
 {
     uint8_t sealed[32];
     MUST(entry(out, 0) == 1);
@@ -173,44 +232,47 @@ static void is_assignment(const uint8_t *out, uint64_t bits, const uint8_t *reco
         MUST(entry(out, wire) <= 1);
     for (uint64_t number = 0; number < 512 * SM3ROWS_BLOCKS(bits); number++)
         MUST(entry(out, 513 + 22528 * (number / 512) + number % 512) == message_bit(bits, record, number));
-    MUST(sm3rows_digest(bits, record, length, sealed, sizeof sealed) == 0);
+    MUST(sm3rows_digest(limit, bits, record, length, sealed, sizeof sealed) == 0);
     for (size_t number = 0; number < 256; number++)
         MUST(entry(out, 1 + number) == bit(sealed, number));
-    MUST(sm3rows_check(bits, sealed, sizeof sealed, out, assignment_bytes(bits)) == 0);
+    MUST(sm3rows_check(limit, bits, sealed, sizeof sealed, out, assignment_bytes(bits)) == 0);
 }
 
 static void produce(struct input *in)
 {
-    uint64_t bits = take_bits(in);
+    uint64_t limit = take_limit(in), bits = take_bits(in, limit);
     size_t length = take_record_len(in, bits), exact = assignment_bytes(bits);
     size_t out_len = (exact + take(in, 1) - 128) % (ROOM - PAGE);
     uint8_t *out = slice(outs, out_len, take(in, 1));
     const uint8_t *record = take_record(in, bits, length);
-    unsigned refusal = record_refusal(bits, record, length);
+    unsigned refusal = record_refusal(limit, bits, record, length);
     if (refusal == 0 && out_len < exact)
         refusal = 4;
     fill(out, out_len);
     seen[refusal]++;
-    MUST(sm3rows_produce(bits, record, length, out, out_len) == refusal);
+    MUST(sm3rows_produce(limit, bits, record, length, out, out_len) == refusal);
     exact = refusal == 0 ? exact : 0;
     MUST(filled(out + exact, out_len - exact));
+    if (as_ours(limit, refusal))
+        MUST(sm3rows_produce(OURS, bits, record, length, filled_again(out_len), out_len) == refusal &&
+             same(out, rights, out_len));
     if (refusal == 0)
-        is_assignment(out, bits, record, length);
+        is_assignment(out, limit, bits, record, length);
 }
 
 /* ---- Check, pack and unpack, on a record's own claim with some things changed ---- */
 
-/* The bits of a record in range. */
-static uint64_t take_real(struct input *in)
+/* The bits of a record in range, which the limit need not allow. */
+static uint64_t take_real(struct input *in, uint64_t limit)
 {
-    return take_bits(in) % (MOST_BITS + 1);
+    return take_bits(in, limit) % (MOST_BITS + 1);
 }
 
 /* Bits that are the record's, or others, mostly with as many blocks. */
-static uint64_t take_other(struct input *in, int other, uint64_t real)
+static uint64_t take_other(struct input *in, int other, uint64_t limit, uint64_t real)
 {
     uint64_t how = other ? take(in, 1) : 0;
-    return !other ? real : how < 128 ? real + how % 32 - 16 : take_bits(in);
+    return !other ? real : how < 128 ? real + how % 32 - 16 : take_bits(in, limit);
 }
 
 /* A record's digest and, in `rights`, its assignment; in `claims` the same with up to 7 entries changed, and zeros
@@ -224,8 +286,8 @@ static void take_claim(struct input *in, uint64_t bits, uint8_t *sealed)
         values[k] = take_entry(in);
     }
     const uint8_t *record = take_cleared(in, bits, length);
-    MUST(sm3rows_digest(bits, record, length, sealed, 32) == 0);
-    MUST(sm3rows_produce(bits, record, length, rights, exact) == 0);
+    MUST(sm3rows_digest(OURS, bits, record, length, sealed, 32) == 0);
+    MUST(sm3rows_produce(OURS, bits, record, length, rights, exact) == 0);
     memcpy(claims, rights, exact);
     memset(claims + exact, 0, 128);
     for (unsigned k = 0; k < changes % 8; k++)
@@ -249,8 +311,8 @@ static uint64_t claim_answer(uint64_t bits, uint64_t real, const uint8_t *sealed
 
 static void check(struct input *in)
 {
-    uint64_t real = take_real(in);
-    uint64_t sizes = take(in, 1), bits = take_other(in, sizes & 1, real);
+    uint64_t limit = take_limit(in), real = take_real(in, limit);
+    uint64_t sizes = take(in, 1), bits = take_other(in, sizes & 1, limit, real);
     size_t digest_len = sizes & 2 ? take(in, 1) : 32;
     size_t assignment_len = take_size(in, sizes & 4, assignment_bytes(real));
     uint8_t *digest = slice(digests, digest_len, sizes >> 3);
@@ -258,8 +320,8 @@ static void check(struct input *in)
     uint8_t sealed[256] = {0};
     take_claim(in, real, sealed);
     uint64_t right = claim_answer(bits, real, sealed);
-    if (bits > MOST_BITS)
-        right = 2;
+    if (length_refusal(limit, bits) != 0)
+        right = length_refusal(limit, bits);
     else if (digest_len != 32)
         right = 5;
     else if (assignment_len != assignment_bytes(bits))
@@ -267,55 +329,78 @@ static void check(struct input *in)
     if (digest_len > 0)
         memcpy(digest, sealed, digest_len);
     memcpy(assignment, claims, assignment_len);
-    uint64_t answer = sm3rows_check(bits, digest, digest_len, assignment, assignment_len);
+    uint64_t answer = sm3rows_check(limit, bits, digest, digest_len, assignment, assignment_len);
     seen[SM3ROWS_REFUSAL(right)]++;
     MUST(SM3ROWS_REFUSAL(answer) == SM3ROWS_REFUSAL(right));
     MUST(right == 9 ? SM3ROWS_FAILING_ROW(answer) < SM3ROWS_ROWS(bits) : answer == right);
+    if (as_ours(limit, answer))
+        MUST(sm3rows_check(OURS, bits, digest, digest_len, assignment, assignment_len) == answer);
     MUST(memcmp(assignment, claims, assignment_len) == 0);
     MUST(digest_len == 0 || memcmp(digest, sealed, digest_len) == 0);
+}
+
+/* What the paper says of packing the claim. */
+static uint64_t packing_answer(uint64_t limit, uint64_t bits, size_t assignment_len, size_t out_len)
+{
+    if (length_refusal(limit, bits) != 0)
+        return length_refusal(limit, bits);
+    if (out_len < packed_bytes(bits))
+        return 4;
+    if (assignment_len != assignment_bytes(bits))
+        return 6;
+    uint64_t great = not_below(claims, SM3ROWS_WIRES(bits));
+    for (uint64_t wire = 0; great == 0 && wire < SM3ROWS_WIRES(bits); wire++)
+        if (entry(claims, wire) > 1)
+            return 10 | wire << 8;
+    return great;
 }
 
 /* Packs the claim; what was packed unpacks to the same bytes. */
 static void pack(struct input *in)
 {
-    uint64_t real = take_real(in);
-    uint64_t sizes = take(in, 1), bits = take_other(in, sizes & 1, real), answer = 0;
+    uint64_t limit = take_limit(in), real = take_real(in, limit);
+    uint64_t sizes = take(in, 1), bits = take_other(in, sizes & 1, limit, real);
     size_t assignment_len = take_size(in, sizes & 2, assignment_bytes(real));
     size_t out_len = take_size(in, sizes & 4, packed_bytes(real)), exact = packed_bytes(bits);
     uint8_t *assignment = slice(assignments, assignment_len, sizes >> 3), *out = slice(outs, out_len, sizes >> 5);
     uint8_t sealed[32];
     take_claim(in, real, sealed);
-    for (uint64_t wire = SM3ROWS_WIRES(real); wire-- > 0;)
-        answer = entry(claims, wire) > 1 ? 10 | wire << 8 : answer;
-    uint64_t great = not_below(claims, SM3ROWS_WIRES(real));
-    if (great != 0)
-        answer = great;
-    if (bits > MOST_BITS)
-        answer = 2;
-    else if (out_len < exact)
-        answer = 4;
-    else if (assignment_len != assignment_bytes(bits))
-        answer = 6;
+    uint64_t answer = packing_answer(limit, bits, assignment_len, out_len);
     memcpy(assignment, claims, assignment_len);
     fill(out, out_len);
     seen[SM3ROWS_REFUSAL(answer)]++;
-    MUST(sm3rows_pack(bits, assignment, assignment_len, out, out_len) == answer);
+    MUST(sm3rows_pack(limit, bits, assignment, assignment_len, out, out_len) == answer);
     MUST(memcmp(assignment, claims, assignment_len) == 0);
     exact = answer == 0 ? exact : 0;
     MUST(filled(out + exact, out_len - exact));
+    if (as_ours(limit, answer))
+        MUST(sm3rows_pack(OURS, bits, assignment, assignment_len, filled_again(out_len), out_len) == answer &&
+             same(out, rights, out_len));
     if (answer == 0) {
-        MUST(sm3rows_unpack(bits, out, exact, rights, ROOM) == 0);
+        MUST(sm3rows_unpack(limit, bits, out, exact, rights, ROOM) == 0);
         MUST(memcmp(rights, claims, assignment_len) == 0);
         for (size_t wire = 0; wire < SM3ROWS_WIRES(bits); wire++)
             MUST(bit(out, wire) == entry(claims, wire));
     }
 }
 
+/* What the paper says of unpacking the bytes in `claims`. */
+static unsigned unpacking_refusal(uint64_t limit, uint64_t bits, size_t packed_len, size_t out_len)
+{
+    if (length_refusal(limit, bits) != 0)
+        return length_refusal(limit, bits);
+    if (out_len < assignment_bytes(bits))
+        return 4;
+    if (packed_len != packed_bytes(bits))
+        return 11;
+    return (claims[packed_len - 1] & 0x7f) != 0 ? 12 : 0;
+}
+
 /* Unpacks bytes of a pattern, up to 7 of them changed; what was unpacked packs to the same bytes. */
 static void unpack(struct input *in)
 {
-    uint64_t real = take_real(in);
-    uint64_t sizes = take(in, 1), bits = take_other(in, sizes & 1, real);
+    uint64_t limit = take_limit(in), real = take_real(in, limit);
+    uint64_t sizes = take(in, 1), bits = take_other(in, sizes & 1, limit, real);
     size_t packed_len = take_size(in, sizes & 2, packed_bytes(real)), exact = assignment_bytes(bits);
     size_t out_len = take_size(in, sizes & 4, assignment_bytes(real));
     uint8_t *packed = slice(assignments, packed_len, sizes >> 3), *out = slice(outs, out_len, sizes >> 5);
@@ -327,31 +412,29 @@ static void unpack(struct input *in)
     claims[packed_len - 1] = sizes & 128 ? last : last & 0x80;
     memcpy(packed, claims, packed_len);
     fill(out, out_len);
-    unsigned refusal = (claims[packed_len - 1] & 0x7f) != 0 ? 12 : 0;
-    if (bits > MOST_BITS)
-        refusal = 2;
-    else if (out_len < exact)
-        refusal = 4;
-    else if (packed_len != packed_bytes(bits))
-        refusal = 11;
+    unsigned refusal = unpacking_refusal(limit, bits, packed_len, out_len);
     seen[refusal]++;
-    MUST(sm3rows_unpack(bits, packed, packed_len, out, out_len) == refusal);
+    MUST(sm3rows_unpack(limit, bits, packed, packed_len, out, out_len) == refusal);
     MUST(memcmp(packed, claims, packed_len) == 0);
     exact = refusal == 0 ? exact : 0;
     MUST(filled(out + exact, out_len - exact));
+    if (as_ours(limit, refusal))
+        MUST(sm3rows_unpack(OURS, bits, packed, packed_len, filled_again(out_len), out_len) == refusal &&
+             same(out, rights, out_len));
     if (refusal == 0) {
         for (size_t wire = 0; wire < exact / 8; wire++)
             MUST(entry(out, wire) == bit(claims, wire));
-        MUST(sm3rows_pack(bits, out, exact, rights, ROOM) == 0 && memcmp(rights, claims, packed_len) == 0);
+        MUST(sm3rows_pack(limit, bits, out, exact, rights, ROOM) == 0 && memcmp(rights, claims, packed_len) == 0);
     }
 }
 
 static void report(void)
 {
+    static const int refusals[] = {21, 2, 13, 14, 22, 3, 4, 5, 6, 20, 10, 11, 12, 7, 8, 9};
     fprintf(stderr, "entry: %lu calls not refused, refused by", seen[0]);
-    for (int number = 2; number < 15; number++)
-        fprintf(stderr, " %d: %lu,", number, seen[number]);
-    fprintf(stderr, " 20: %lu\n", seen[20]);
+    for (size_t k = 0; k < sizeof refusals / sizeof *refusals; k++)
+        fprintf(stderr, " %d: %lu,", refusals[k], seen[refusals[k]]);
+    fprintf(stderr, " as under sixteen blocks: %lu under another limit\n", alike);
 }
 
 int LLVMFuzzerInitialize(int *argc, char ***argv)

@@ -16,7 +16,7 @@ static const char *const headers[PROGRAMS] = {"row,part,wire,coefficient\n", "ro
 
 /* ---- Document 01 on the line, its length in bits by document 02, request 2 ---- */
 
-enum { MOST_BITS = 8127 };
+enum { MOST_BITS = 8127 }; /* those of sixteen blocks, the programs' limit */
 
 static uint64_t block_count(uint64_t bits)
 {

@@ -1,8 +1,8 @@
 /* libFuzzer harness for the standard input of the program `packed`.
  *
- * A run is as program.h has it. What is printed is held against document 02, requests 1 and 2: the line, the bits and the
- * packed bytes are judged below (refusals 1, 2, 11, 12), and the wires by the archive's check (refusals 7, 8, 9), so that
- * the program and the library must agree. The claims to begin with are made at the start, by the archive. */
+ * A run is as program.h has it. What is printed is held against document 02, requests 1, 2 and 8: the line, the bits and
+ * the packed bytes are judged below (refusals 1, 2, 11, 12), and the wires by the archive's check (refusals 7, 8, 9), so
+ * that the program and the library must agree. The claims to begin with are made at the start, by the archive. */
 
 #include <string.h>
 
@@ -13,6 +13,7 @@ int packed_main(void);
 
 /* ---- What the program must print ---- */
 
+enum { LIMIT = SM3ROWS_LIMIT_OURS }; /* in blocks: the one that the program uses, which allows every length */
 enum { DIGITS = 2 * SM3ROWS_DIGEST_BYTES, WIRES = 513 + 22528 * 16, MOST_BITS = 8127 };
 
 static size_t packed_bytes(uint64_t bits)
@@ -69,7 +70,7 @@ static unsigned refusal(const uint8_t *bytes, size_t size)
     if (bytes[size - 1] & 0x7f)
         return 12;
     unpack(bytes + begin, entries, SM3ROWS_WIRES(bits));
-    uint64_t answer = sm3rows_check(bits, digest, sizeof digest, entries, SM3ROWS_ASSIGNMENT_BYTES(bits));
+    uint64_t answer = sm3rows_check(LIMIT, bits, digest, sizeof digest, entries, SM3ROWS_ASSIGNMENT_BYTES(bits));
     MUST(SM3ROWS_REFUSAL(answer) != 20); /* of a bit an entry below p comes */
     return SM3ROWS_REFUSAL(answer);
 }
@@ -118,8 +119,8 @@ static void make_claim(size_t number)
     memset(record, 'a', sizeof record);
     if (bits % 8 > 0)
         record[length - 1] &= (uint8_t)(0xff << (8 - bits % 8));
-    MUST(sm3rows_digest(bits, record, length, digest, sizeof digest) == 0);
-    MUST(sm3rows_produce(bits, record, length, entries, sizeof entries) == 0);
+    MUST(sm3rows_digest(LIMIT, bits, record, length, digest, sizeof digest) == 0);
+    MUST(sm3rows_produce(LIMIT, bits, record, length, entries, sizeof entries) == 0);
     at += snprintf((char *)at, CLAIM, "%u,", (unsigned)bits);
     for (size_t k = 0; k < sizeof digest; k++)
         at += snprintf((char *)at, 3, "%02x", digest[k]);
@@ -151,8 +152,8 @@ static size_t put_front(uint8_t *bytes, size_t size, size_t front, const uint8_t
 /* Another length, in range or not, in the place of the claim's. */
 static size_t other_length(uint8_t *bytes, size_t size)
 {
-    static const char *const others[] = {"1",   "36",  "38",   "40",   "439",  "441",   "446",
-                                         "448", "959", "8127", "8128", "8129", "65536", "999999999"};
+    static const char *const others[] = {"1",   "36",  "38",   "40",   "439",  "441",   "446",      "448",
+                                         "959", "960", "8127", "8128", "8129", "65536", "999999999"};
     const char *other = others[below(sizeof others / sizeof *others)];
     size_t digits = (size_t)((uint8_t *)memchr(bytes, ',', size) - bytes);
     return put_front(bytes, size, digits, (const uint8_t *)other, strlen(other));

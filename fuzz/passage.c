@@ -12,6 +12,7 @@
 #include "passage.h"
 #include "sm3rows.h"
 
+enum { LIMIT = SM3ROWS_LIMIT_PARTNER }; /* in blocks: the one that sealing and checking use themselves */
 enum { LINE = PASSAGE_LINE_BYTES, PLATE = PASSAGE_PLATE_FIRST, BLIND = PASSAGE_BLIND_FIRST };
 enum { DIGEST = PASSAGE_DIGEST_BYTES, ASSIGNMENT = PASSAGE_ASSIGNMENT_BYTES };
 
@@ -235,8 +236,8 @@ static void write_line(struct input *in)
 static void is_sealed(const uint8_t *line, const uint8_t *digest, const uint8_t *assignment)
 {
     uint8_t right[DIGEST];
-    MUST(sm3rows_digest(PASSAGE_BITS, line, LINE, right, sizeof right) == 0);
-    MUST(sm3rows_produce(PASSAGE_BITS, line, LINE, rights, ASSIGNMENT) == 0);
+    MUST(sm3rows_digest(LIMIT, PASSAGE_BITS, line, LINE, right, sizeof right) == 0);
+    MUST(sm3rows_produce(LIMIT, PASSAGE_BITS, line, LINE, rights, ASSIGNMENT) == 0);
     MUST(memcmp(digest, right, DIGEST) == 0 && memcmp(assignment, rights, ASSIGNMENT) == 0);
     MUST(passage_check(digest, DIGEST, assignment, ASSIGNMENT) == 0);
 }
@@ -292,9 +293,9 @@ static void check(struct input *in)
     uint8_t *digest = slice(digests, digest_len, sizes >> 2);
     uint8_t *assignment = slice(assignments, assignment_len, sizes >> 4);
     take_near_right(in, line);
-    MUST(sm3rows_digest(PASSAGE_BITS, line, LINE, sealed, DIGEST) == 0);
+    MUST(sm3rows_digest(LIMIT, PASSAGE_BITS, line, LINE, sealed, DIGEST) == 0);
     memset(rights + ASSIGNMENT, 0, 128);
-    MUST(sm3rows_produce(PASSAGE_BITS, line, LINE, rights, ASSIGNMENT) == 0);
+    MUST(sm3rows_produce(LIMIT, PASSAGE_BITS, line, LINE, rights, ASSIGNMENT) == 0);
     for (uint64_t k = changes % 4; k > 0; k--)
         change_entry(in, rights, ASSIGNMENT);
     if (changes & 128)
@@ -306,13 +307,13 @@ static void check(struct input *in)
     uint64_t right = answer_to_entries(digest_len, assignment, assignment_len);
     unsigned refusal = PASSAGE_REFUSAL(answer);
     count(answer);
-    MUST(answer == sm3rows_check(PASSAGE_BITS, digest, digest_len, assignment, assignment_len));
+    MUST(answer == sm3rows_check(LIMIT, PASSAGE_BITS, digest, digest_len, assignment, assignment_len));
     MUST(right != 0 ? answer == right : refusal == 0 || (refusal >= 7 && refusal <= 9));
     MUST(right != 0 || (refusal == 9 ? PASSAGE_FAILING_ROW(answer) < SM3ROWS_ROWS(PASSAGE_BITS) : answer == refusal));
     MUST(memcmp(assignment, rights, assignment_len) == 0);
     MUST(digest_len == 0 || memcmp(digest, sealed, digest_len) == 0);
     if (answer == 0)
-        MUST(sm3rows_produce(PASSAGE_BITS, line, LINE, rights, ASSIGNMENT) == 0 &&
+        MUST(sm3rows_produce(LIMIT, PASSAGE_BITS, line, LINE, rights, ASSIGNMENT) == 0 &&
              memcmp(assignment, rights, ASSIGNMENT) == 0);
 }
 

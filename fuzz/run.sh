@@ -1,6 +1,6 @@
 #!/bin/sh
 # Fuzzes with libFuzzer and ASan, for some seconds each: fuzz/run.sh [SECONDS], 60 without it.
-#   entry   the six functions of the row library's archive that take a record's bits;
+#   entry   the six functions of the row library's archive that take a limit and a record's bits;
 #   axles   its three for axles between two bounds;
 #   passage the four functions of the passage product's archive, beside the row library;
 #   line    the line that the programs `rows` and `steps` read, and the shape of what they print;
@@ -47,27 +47,43 @@ build passage "$root/fuzz/lent.c" "$passage" "$archive"
 build line "$root/fuzz/program.c" "$work/rows.o" "$work/steps.o"
 build packed "$root/fuzz/program.c" "$work/packed.o" "$archive"
 
-# One input for each function, some for records of 37, 447, 448 and 8,127 bits and for their refusals, some for axles
-# outside their bounds and claims for other bounds, some claims with an entry p - 1, p, p + 1 or 2^64 - 1, and some lines,
-# to begin with; claims to `packed` are made by its harness.
+# One input for each function, some for records of 37, 447, 448 and 8,127 bits and for their refusals, some for limits in
+# blocks, some for axles outside their bounds and claims for other bounds, some claims with an entry p - 1, p, p + 1 or
+# 2^64 - 1, and some lines, to begin with; claims to `packed` are made by its harness.
 mkdir -p "$work/entry.corpus" "$work/axles.corpus" "$work/passage.corpus" "$work/line.corpus" "$work/packed.corpus"
-printf '\000\000\000\030\000\040\000\000\000abcabc' > "$work/entry.corpus/digest"
-printf '\000\000\000\045\000\040\000\000\000abcde' > "$work/entry.corpus/inside"
-printf '\000\000\000\045\300\040\000\000\000abcde' > "$work/entry.corpus/bytes"
-printf '\000\000\000\045\000\040\000\300\000abcde' > "$work/entry.corpus/spare"
-printf '\000\351\000\340\000\040\000\000\000abc' > "$work/entry.corpus/wide"
-printf '\001\000\000\045\004\000\000' > "$work/entry.corpus/row"
-printf '\002\000\000\045\000\200\000\000\000abcde' > "$work/entry.corpus/produce"
-printf '\002\161\007\000\200\000\000\000abcde' > "$work/entry.corpus/one-block"
-printf '\002\161\010\000\200\000\000\000abcde' > "$work/entry.corpus/two-blocks"
-printf '\002\166\007\000\200\000\000\000abcde' > "$work/entry.corpus/longest"
-printf '\003\000\000\045\000\001\000\000\002\001\000\002abcabc' > "$work/entry.corpus/check"
-printf '\004\000\000\045\000\001\000\000\002\001\000\002abcabc' > "$work/entry.corpus/pack"
-printf '\005\000\000\045\000\005\200\000' > "$work/entry.corpus/unpack"
+printf '\000\000\000\000\030\000\040\000\000\000abcabc' > "$work/entry.corpus/digest"
+printf '\000\000\000\000\045\000\040\000\000\000abcde' > "$work/entry.corpus/inside"
+printf '\000\000\000\000\045\300\040\000\000\000abcde' > "$work/entry.corpus/bytes"
+printf '\000\000\000\000\045\000\040\000\300\000abcde' > "$work/entry.corpus/spare"
+printf '\000\000\351\000\340\000\040\000\000\000abc' > "$work/entry.corpus/wide"
+printf '\001\000\000\000\045\004\000\000' > "$work/entry.corpus/row"
+printf '\002\000\000\000\045\000\200\000\000\000abcde' > "$work/entry.corpus/produce"
+printf '\002\000\161\007\000\200\000\000\000abcde' > "$work/entry.corpus/one-block"
+printf '\002\000\161\010\000\200\000\000\000abcde' > "$work/entry.corpus/two-blocks"
+printf '\002\000\166\007\000\200\000\000\000abcde' > "$work/entry.corpus/longest"
+printf '\003\000\000\000\045\000\001\000\000\002\001\000\002abcabc' > "$work/entry.corpus/check"
+printf '\004\000\000\000\045\000\001\000\000\002\001\000\002abcabc' > "$work/entry.corpus/pack"
+printf '\005\000\000\000\045\000\005\200\000' > "$work/entry.corpus/unpack"
 # Two entries changed: a 2 or wire 0 in front of one that is p, and p in front of 2^64 - 1.
-printf '\004\000\000\045\000\002\000\000\000\003\000\002\000\000\002\001\140\002abcabc' > "$work/entry.corpus/pack-both"
-printf '\003\000\000\045\000\002\000\000\000\000\000\000\200\000\000\000\140\002abcabc' > "$work/entry.corpus/wire-0"
-printf '\003\000\000\045\000\002\000\000\002\001\140\002\200\000\000\000\240\003abcabc' > "$work/entry.corpus/lowest"
+printf '\004\000\000\000\045\000\002\000\000\000\003\000\002\000\000\002\001\140\002abcabc' > "$work/entry.corpus/pack-both"
+printf '\003\000\000\000\045\000\002\000\000\000\000\000\000\200\000\000\000\140\002abcabc' > "$work/entry.corpus/wire-0"
+printf '\003\000\000\000\045\000\002\000\000\002\001\140\002\200\000\000\000\240\003abcabc' > "$work/entry.corpus/lowest"
+# limits FUNCTION REST: under the partner's limit the most bits that it allows and one bit more; 37 bits under limits that
+# are out of range, 0, 17, 2^32 + 2 and 2^64 - 1. What comes after the bits is the rest.
+limits() {
+    number=0
+    for front in '\0160\0250\0007' '\0160\0250\0010' '\0140\0000\0000\0045' '\0141\0000\0000\0045' \
+        '\0142\0000\0000\0045' '\0143\0000\0000\0045'; do
+        number=$((number + 1))
+        printf '%b' "\\0$1$front$2" > "$work/entry.corpus/limit-$1-$number"
+    done
+}
+limits 0 '\0000\0040\0000\0000\0000abcde'
+limits 1 '\0004\0000\0000'
+limits 2 '\0000\0200\0000\0000\0000abcde'
+limits 3 '\0000\0000\0000abcabc'
+limits 4 '\0000\0000\0000abcabc'
+limits 5 '\0000\0005\0200\0000'
 printf '\000\000\003\000\002\003\041\000\000abc' > "$work/axles.corpus/row"
 printf '\000\000\003\000\002\003\140\240\000\000abc' > "$work/axles.corpus/no-row"
 printf '\001\000\003\000\002\003\000\000abc' > "$work/axles.corpus/produce"
@@ -89,8 +105,8 @@ printf '\003\000\002\004abcdefghijklmnopqrstuvwxyz0123456789' > "$work/passage.c
 number=0
 for value in '\0140\0001' '\0140\0002' '\0140\0003' '\0240\0003'; do
     number=$((number + 1))
-    printf '\003\000\000\045\000\001\000\000\002\001%babcabc' "$value" > "$work/entry.corpus/check-entry-$number"
-    printf '\004\000\000\045\000\001\000\000\002\001%babcabc' "$value" > "$work/entry.corpus/pack-entry-$number"
+    printf '\003\000\000\000\045\000\001\000\000\002\001%babcabc' "$value" > "$work/entry.corpus/check-entry-$number"
+    printf '\004\000\000\000\045\000\001\000\000\002\001%babcabc' "$value" > "$work/entry.corpus/pack-entry-$number"
     printf '\002\000\003\000\002\003\000\001\120%babc' "$value" > "$work/axles.corpus/entry-$number"
     printf '\003\000\001\004%061d\001\000\002\001%b' 0 "$value" > "$work/passage.corpus/entry-$number"
 done

@@ -16,6 +16,9 @@
  *   ,       30
  *   blind   31 to 62   32 digits from 0 to 9 and a to f
  *
+ * As a record a line has 504 bits, which are two blocks. The calls here take no limit in blocks: they use a partner road's
+ * limit of two, which a line always meets, so that none of them is refused for it.
+ *
  * The answer of every call is one 64-bit number. Its low byte is the refusal's number, 0 for none. What stands above it:
  *   - passage_read without a refusal: the lane at bits 8 to 17, the time at bits 18 to 51, the class at bits 52 to 55, the
  *     axles at bits 56 to 62;

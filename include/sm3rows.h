@@ -4,9 +4,15 @@
  * highest of the first byte, and the low bits of the last byte that it does not reach are zero. A record of whole bytes
  * has 8 x bytes bits. The number is compared as it comes, 64 bits wide.
  *
+ * The six operations that take `bits` take their caller's limit first: how many blocks at most the caller takes, 1 to 16.
+ * Our own road takes sixteen, a partner road two. A length that needs more blocks than the limit is refused. A limit does
+ * no more than that: rows, assignments and answers for a length are the same under every limit that allows it. It too is
+ * compared as it comes.
+ *
  * Three of the operations are of another circuit, axles between two bounds. Its record has 504 bits, the length of a
  * passage line; bytes 17 and 18 are digits, the tens and the units of the axles, which lie within the bounds, ends
- * included. Bounds are from 2 to 99; they too are compared as they come.
+ * included. Bounds are from 2 to 99; they too are compared as they come. These three take no limit. They use the
+ * partner's two blocks, as many as 504 bits need, so that 21 and 22 cannot occur.
  *
  * An assignment has one entry a wire: a number below p in 8 bytes, least byte first. An entry of p or more is refused, and
  * none is read modulo p.
@@ -21,9 +27,11 @@
  *
  * Refusals, in the order in which they are looked for. A call skips those that it has no argument for. A refused call
  * changes no byte.
- *   2  the record length is above 8,127 bits
+ *  21  the limit is outside 1 to 16 blocks
+ *   2  the record length is above 8,127 bits, whatever the limit
  *  13  the record's bytes are not the bits over 8 rounded up; for axles, they are not 63
  *  14  a bit after the last record bit is set: one of the low 8 x bytes - bits bits of the last byte
+ *  22  the record length needs more blocks than the limit
  *  18  a bound is outside 2 to 99, or the lower one is above the upper
  *  19  byte 17 or 18 of the record is no digit, or the axles are outside the bounds (sm3rows_axles_produce alone)
  *   3  the row number is not below the row count
@@ -61,6 +69,12 @@ extern "C" {
 /* The prime p: every entry of an assignment is below it. */
 #define SM3ROWS_PRIME 2305843009213693951u
 
+/* The limit in blocks: ours, and a partner road's. And the most bits of a record in so many blocks, for a limit from 1 to
+ * 16: 447, 959, .., 8,127. */
+#define SM3ROWS_LIMIT_OURS 16u
+#define SM3ROWS_LIMIT_PARTNER 2u
+#define SM3ROWS_LIMIT_BITS(limit) (512 * (uint64_t)(limit) - 65)
+
 /* The most bits of a record; and sizes for a record of `bits` bits, from 0 to that many. */
 #define SM3ROWS_MOST_BITS 8127u
 #define SM3ROWS_DIGEST_BYTES 32u
@@ -89,36 +103,40 @@ extern "C" {
 #define SM3ROWS_FAILING_ROW(answer) ((uint64_t)(answer) >> 8)
 #define SM3ROWS_FAILING_WIRE(answer) ((uint64_t)(answer) >> 8)
 
-/* The SM3 digest of the record into the first 32 bytes of out. Bytes of out past it keep their value. Refusals 2, 13, 14,
- * 4. */
-uint64_t sm3rows_digest(uint64_t bits, const uint8_t *record, size_t record_len, uint8_t *out, size_t out_len);
+/* The SM3 digest of the record into the first 32 bytes of out. Bytes of out past it keep their value. Refusals 21, 2, 13,
+ * 14, 22, 4. */
+uint64_t sm3rows_digest(uint64_t limit, uint64_t bits, const uint8_t *record, size_t record_len, uint8_t *out,
+                        size_t out_len);
 
 /* Row number `row` for records of `bits` bits into out: the terms of A, then of B, then of C, 12 bytes each (wire 4,
  * coefficient 8, least byte first). A coefficient is signed, in two's complement, and is read as an int64_t: not 0, and
  * between -(p - 1) / 2 and (p - 1) / 2. A negative one plus p is the same modulo p. Bytes of out past the terms keep
- * their value. Refusals 2, 3, 4. */
-uint64_t sm3rows_row(uint64_t bits, uint64_t row, uint8_t *out, size_t out_len);
+ * their value. Refusals 21, 2, 22, 3, 4. */
+uint64_t sm3rows_row(uint64_t limit, uint64_t bits, uint64_t row, uint8_t *out, size_t out_len);
 
 /* The whole assignment of the record into the first 8 x wires bytes of out: 8 bytes a wire, least byte first, each the
  * number 0 or 1. Bytes of out past it keep their value. The digest that it is accepted against stands in it: wires 1 to
- * 256, its first bit first. Refusals 2, 13, 14, 4. */
-uint64_t sm3rows_produce(uint64_t bits, const uint8_t *record, size_t record_len, uint8_t *out, size_t out_len);
+ * 256, its first bit first. Refusals 21, 2, 13, 14, 22, 4. */
+uint64_t sm3rows_produce(uint64_t limit, uint64_t bits, const uint8_t *record, size_t record_len, uint8_t *out,
+                         size_t out_len);
 
 /* Whether the assignment satisfies every row for records of `bits` bits and has this digest. 0 when it does: then it is,
- * byte for byte, what sm3rows_produce writes for a record of so many bits that has this digest. Refusals 2, 5, 6, 20, 7,
- * 8, 9. */
-uint64_t sm3rows_check(uint64_t bits, const uint8_t *digest, size_t digest_len, const uint8_t *assignment,
-                       size_t assignment_len);
+ * byte for byte, what sm3rows_produce writes for a record of so many bits that has this digest. Refusals 21, 2, 22, 5, 6,
+ * 20, 7, 8, 9. */
+uint64_t sm3rows_check(uint64_t limit, uint64_t bits, const uint8_t *digest, size_t digest_len,
+                       const uint8_t *assignment, size_t assignment_len);
 
 /* The assignment for records of `bits` bits at one bit a wire into the first 65 + 2,816 x blocks bytes of out: wire w in
  * byte w / 8, the first wire in the highest bit, the spare low bits zero. Bytes of out past them keep their value.
- * Refusals 2, 4, 6, 20, 10. */
-uint64_t sm3rows_pack(uint64_t bits, const uint8_t *assignment, size_t assignment_len, uint8_t *out, size_t out_len);
+ * Refusals 21, 2, 22, 4, 6, 20, 10. */
+uint64_t sm3rows_pack(uint64_t limit, uint64_t bits, const uint8_t *assignment, size_t assignment_len, uint8_t *out,
+                      size_t out_len);
 
 /* The way back: the assignment of packed bytes into the first 8 x wires bytes of out, laid out as by sm3rows_produce.
- * Bytes of out past it keep their value. Unpacking what was packed gives the assignment byte for byte. Refusals 2, 4, 11,
- * 12. */
-uint64_t sm3rows_unpack(uint64_t bits, const uint8_t *packed, size_t packed_len, uint8_t *out, size_t out_len);
+ * Bytes of out past it keep their value. Unpacking what was packed gives the assignment byte for byte. Refusals 21, 2,
+ * 22, 4, 11, 12. */
+uint64_t sm3rows_unpack(uint64_t limit, uint64_t bits, const uint8_t *packed, size_t packed_len, uint8_t *out,
+                        size_t out_len);
 
 /* ---- Axles between two bounds: the wires and rows of a record of 504 bits, and behind them 22 wires and 34 rows ---- */
 

@@ -9,7 +9,7 @@ use judge::field::P;
 use judge::record::Record;
 use judge::{layout, sm3};
 
-use crate::measures::{as_bytes, figures, produce_ours, put_entry, record, OURS};
+use crate::measures::{as_bytes, figures, produce_ours, put_entry, record, LIMIT, OURS};
 use crate::timing::{best, side, Figure};
 
 /// Our side where a function for axles is called.
@@ -110,7 +110,7 @@ fn right(record: &Record) -> Vec<u8> {
 
 /// All rows, one after the other: the time of one.
 pub fn row(runs: u32) -> Vec<Figure> {
-    let theirs = |row: u64, out: &mut [u8]| host::row(Empty::Null, BITS, row, out);
+    let theirs = |row: u64, out: &mut [u8]| host::row(Empty::Null, LIMIT, BITS, row, out);
     let (mut ours, mut same) = ([0; ROW_BYTES], [0; ROW_BYTES]);
     for number in 0..RECORD_ROWS {
         assert_eq!(row_ours(number, &mut ours), theirs(number, &mut same));
@@ -158,7 +158,7 @@ pub fn check(runs: u32) -> Vec<Figure> {
     let record = with_axles();
     let (digest, mut claim) = (sm3::hash(&record), right(&record));
     let (last, end) = (claim.len() - 8, layout::assignment(&record).len());
-    let theirs = |claim: &[u8]| host::check(Empty::Null, BITS, &digest, &claim[..end]);
+    let theirs = |claim: &[u8]| host::check(Empty::Null, LIMIT, BITS, &digest, &claim[..end]);
     claim[last] ^= 1;
     let failing = 9 | (ROWS - 1) << 8;
     assert_eq!([check_ours(&digest, &claim), theirs(&claim)], [failing, 0]);

@@ -11,7 +11,7 @@ use judge::rows;
 use judge::sm3;
 
 use crate::baseline::Matrix;
-use crate::measures::{answer, deceive, figures, put_entry, record, shift, OURS};
+use crate::measures::{answer, deceive, figures, put_entry, record, shift, LIMIT, OURS};
 use crate::timing::{best, side, Figure};
 
 /// A record's claim with the rows of its length, as the judge has them and as
@@ -61,7 +61,7 @@ impl Claim {
     /// must give this answer, the judge too.
     fn measure(self, name: &'static str, right: u64, beside: Beside, runs: u32) -> Vec<Figure> {
         let (bits, digest) = (self.length.bits() as u64, self.digest);
-        let ours = |assignment: &[u8]| host::check(Empty::Null, bits, &digest, assignment);
+        let ours = |assignment: &[u8]| host::check(Empty::Null, LIMIT, bits, &digest, assignment);
         let theirs = || self.matrix.check(&digest, &self.assignment);
         let judged = || check_with(&self.table, self.length, &self.assignment, &digest);
         let answers = [ours(&self.assignment), theirs(), answer(judged())];

@@ -20,6 +20,10 @@ use crate::timing::{best, side, Figure, Side};
 
 pub const OURS: &str = "sm3rows";
 
+/// The limit in blocks of every call that takes one: sixteen, which allows
+/// every length.
+pub const LIMIT: u64 = 16;
+
 /// The measure that `growth` takes.
 pub const SAME_MEMORY: &str = "produce-same-memory";
 
@@ -32,12 +36,14 @@ pub fn record(bits: u64) -> Record {
 
 /// Our digest of a record, a call that is timed.
 pub fn digest_ours(record: &Record, out: &mut [u8; 32]) -> u64 {
-    host::digest(Empty::Null, record.bits() as u64, record.bytes(), out)
+    let (bits, bytes) = (record.bits() as u64, record.bytes());
+    host::digest(Empty::Null, LIMIT, bits, bytes, out)
 }
 
 /// Our assignment of a record, a call that is timed.
 pub fn produce_ours(record: &Record, out: &mut [u8]) -> u64 {
-    host::produce(Empty::Null, record.bits() as u64, record.bytes(), out)
+    let (bits, bytes) = (record.bits() as u64, record.bytes());
+    host::produce(Empty::Null, LIMIT, bits, bytes, out)
 }
 
 /// Entries as the bytes of an assignment.

@@ -9,7 +9,7 @@ use judge::layout;
 use judge::length::Length;
 
 use crate::baseline;
-use crate::measures::{answer, as_bytes, deceive, put_entry, record, turn_by_turn, OURS};
+use crate::measures::{answer, as_bytes, deceive, put_entry, record, turn_by_turn, LIMIT, OURS};
 use crate::timing::{side, Figure, Side};
 
 fn in_range(bits: u64) -> Length {
@@ -20,7 +20,7 @@ fn in_range(bits: u64) -> Length {
 /// it answers.
 fn packed(bits: u64, assignment: &[u8]) -> (Vec<u8>, u64) {
     let mut out = vec![0xa5; in_range(bits).packed_bytes()];
-    let judged = judge::packing::pack(bits, assignment, &mut out);
+    let judged = judge::packing::pack(LIMIT, bits, assignment, &mut out);
     (out, answer(judged))
 }
 
@@ -28,7 +28,7 @@ fn packed(bits: u64, assignment: &[u8]) -> (Vec<u8>, u64) {
 type Packing = fn(Length, &[u8], &mut [u8]) -> u64;
 
 fn pack_ours(length: Length, assignment: &[u8], out: &mut [u8]) -> u64 {
-    host::pack(Empty::Null, length.bits() as u64, assignment, out)
+    host::pack(Empty::Null, LIMIT, length.bits() as u64, assignment, out)
 }
 
 /// The packing of this assignment by one side, with a buffer of its own. The
@@ -106,7 +106,7 @@ fn unpackers(bits: u64) -> [Side<'static>; 2] {
     *spare.last_mut().expect("packed bytes") |= 1;
     for (answer, bytes) in [(11, &packed[1..]), (12, &spare), (0, &packed)] {
         let both = [
-            host::unpack(Empty::Null, bits, bytes, &mut ours),
+            host::unpack(Empty::Null, LIMIT, bits, bytes, &mut ours),
             baseline::unpack(in_range(bits), bytes, &mut theirs),
         ];
         assert_eq!(both, [answer; 2]);
@@ -119,7 +119,7 @@ fn unpackers(bits: u64) -> [Side<'static>; 2] {
     let same = Rc::clone(&packed);
     [
         side(OURS, move || {
-            host::unpack(Empty::Null, bits, &packed, &mut ours)
+            host::unpack(Empty::Null, LIMIT, bits, &packed, &mut ours)
         }),
         side("c-loop", move || {
             baseline::unpack(in_range(bits), &same, &mut theirs)

@@ -11,7 +11,7 @@ use judge::record::Record;
 use judge::{layout, sm3};
 
 use crate::baseline;
-use crate::measures::{figures, put_entry, OURS};
+use crate::measures::{figures, put_entry, LIMIT, OURS};
 use crate::timing::{best, side, Figure, Side};
 
 /// Our side where a function of the passage product is called.
@@ -339,11 +339,11 @@ fn seal_by_passage(line: &Line, out: &mut Sealed) -> u64 {
 }
 
 fn produce_alone(line: &Line, out: &mut Sealed) -> u64 {
-    host::produce(Empty::Null, BITS, line, &mut out.assignment)
+    host::produce(Empty::Null, LIMIT, BITS, line, &mut out.assignment)
 }
 
 fn digest_and_produce(line: &Line, out: &mut Sealed) -> u64 {
-    let digest = host::digest(Empty::Null, BITS, line, &mut out.digest);
+    let digest = host::digest(Empty::Null, LIMIT, BITS, line, &mut out.digest);
     digest | produce_alone(line, out)
 }
 
@@ -382,7 +382,7 @@ pub fn check(runs: u32) -> Vec<Figure> {
     let mut sealed = Sealed::right(&Fields::new(&mut random).line());
     let both = |sealed: &Sealed| {
         let Sealed { digest, assignment } = sealed;
-        let theirs = host::check(Empty::Null, BITS, digest, assignment);
+        let theirs = host::check(Empty::Null, LIMIT, BITS, digest, assignment);
         [check_ours(digest, assignment), theirs]
     };
     let last = sealed.assignment.len() - 8;
@@ -397,7 +397,9 @@ pub fn check(runs: u32) -> Vec<Figure> {
     let Sealed { digest, assignment } = &sealed;
     let sides = vec![
         side(PASSAGE, || check_ours(digest, assignment)),
-        side(OURS, || host::check(Empty::Null, BITS, digest, assignment)),
+        side(OURS, || {
+            host::check(Empty::Null, LIMIT, BITS, digest, assignment)
+        }),
     ];
     figures("passage-check", BITS, &best(sides, runs))
 }
