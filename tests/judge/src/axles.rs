@@ -23,6 +23,7 @@ pub use operations::{check, check_with, produce, row, row_with};
 use std::ops::Range;
 
 use crate::length::Length;
+use crate::limit::{self, TWO};
 use crate::passage::line::{AXLES, LINE_BYTES};
 
 /// "A record of other than 63 bytes is 13 here."
@@ -40,9 +41,10 @@ pub const APPENDED_ROWS: usize = 34;
 /// minus axles (7 bits each)".
 const NUMBER_BITS: [usize; 4] = [4, 4, 7, 7];
 
-/// The length of the record, in bits.
+/// The length of the record, in bits: two blocks, which the limit of these calls
+/// allows.
 pub fn length() -> Length {
-    Length::new(8 * RECORD_BYTES as u64).expect("a passage is in range")
+    limit::length(TWO, 8 * RECORD_BYTES as u64).expect("a passage is in range")
 }
 
 /// All wires and all rows of the circuit, and the bytes of an assignment.

@@ -1,11 +1,12 @@
-//! The check of an assignment against a digest: refusals 2, 5, 6, 20, 7, 8,
-//! 9, in this order, straight over the rows.
+//! The check of an assignment against a digest: refusals 21, 2, 22, 5, 6, 20, 7,
+//! 8, 9, in this order, straight over the rows.
 
 use crate::bits::bit;
 use crate::entries;
 use crate::field;
 use crate::forms::{Row, RowNumber, RowTable, Term};
 use crate::length::{right_assignment, Length};
+use crate::limit;
 use crate::refusal::Refusal;
 use crate::rows;
 
@@ -49,7 +50,7 @@ fn check_digest_wires(entries: &[u64], digest: &[u8]) -> Result<(), Refusal> {
     Ok(())
 }
 
-/// Refusals 5, 6, 20, 7, 8, 9 for a length in range, with the rows of that
+/// Refusals 5, 6, 20, 7, 8, 9 for a length that is allowed, with the rows of that
 /// length at hand. It saves time where many assignments of one length are judged.
 pub fn check_with(
     table: &RowTable,
@@ -78,8 +79,8 @@ pub(crate) fn check_circuit(
 
 /// The whole check: `Ok` when the assignment is accepted for the length
 /// against the digest.
-pub fn check(length: u64, assignment: &[u8], digest: &[u8]) -> Result<(), Refusal> {
-    let length = Length::new(length)?;
+pub fn check(limit: u64, length: u64, assignment: &[u8], digest: &[u8]) -> Result<(), Refusal> {
+    let length = limit::length(limit, length)?;
     // Sizes first, so that a wrong size is refused before any row is built.
     check_sizes(length.wires(), assignment, digest)?;
     check_with(&rows::rows(length), length, assignment, digest)

@@ -1,16 +1,17 @@
 //! An outside judge for the paper "SM3 record rows over the prime 2^61 - 1".
 //!
-//! Everything here was written from that paper alone and from the first seven of
+//! Everything here was written from that paper alone and from the first eight of
 //! its change requests, "Packed assignments", "Lengths in bits", "Passage
 //! records", "Sealing in one pass", which asks for no other answer, "Axles
-//! between two bounds", "Entries below the prime" and "Signed coefficients"; but
-//! the programs `steps`, `axle_rows` and `axle_steps` have their formats from
-//! docs/STEPS.md. Sentences of the papers are quoted in the comments beside the
-//! code that follows them.
+//! between two bounds", "Entries below the prime", "Signed coefficients" and "The
+//! partner's two blocks"; but the programs `steps`, `axle_rows` and `axle_steps`
+//! have their formats from docs/STEPS.md. Sentences of the papers are quoted in the
+//! comments beside the code that follows them.
 //!
 //! * `sm3`: the hash, and every word it computes on the way ("SM3 as used").
 //! * `length`: lengths in range and the counts of blocks, wires and rows.
 //! * `record`: bit strings, and the bytes that they are handed over in.
+//! * `limit`: the caller's limit in blocks, and which lengths and records it allows.
 //! * `layout`: the wires of a record, from the record alone ("Wires",
 //!   "The words of demand 3").
 //! * `forms`: terms with signed coefficients, and the row forms ("Rows", its list
@@ -26,7 +27,7 @@
 //! * `passage`: the lines of the passage product: read, write, seal, check.
 //! * `axles`: the circuit of axles between two bounds: its wires, rows, produce
 //!   and check, and its two programs.
-//! * `refusal`: the twenty refusals. `field`: numbers modulo p. `bits`: the
+//! * `refusal`: the twenty-two refusals. `field`: numbers modulo p. `bits`: the
 //!   bits of bytes.
 
 #![forbid(unsafe_code)]
@@ -39,6 +40,7 @@ pub mod field;
 pub mod forms;
 pub mod layout;
 pub mod length;
+pub mod limit;
 pub mod listing;
 pub mod operations;
 pub mod packed;

@@ -4,6 +4,7 @@ use std::ops::Range;
 
 use crate::forms::{Row, RowNumber, RowTable, Term};
 use crate::length::Length;
+use crate::limit::{self, SIXTEEN};
 use crate::refusal::Refusal;
 use crate::rows;
 
@@ -44,10 +45,11 @@ pub(crate) fn asked(first: u64, how_many: u64, count: usize) -> Result<Range<usi
     Ok(first as usize..(first + how_many) as usize)
 }
 
-/// Refusals 1, 2 and 3: the length, and the rows that are asked for.
+/// Refusals 1, 2 and 3: the length, and the rows that are asked for. The limit is
+/// sixteen.
 pub(crate) fn accept(input: &[u8]) -> Result<(Length, Range<usize>), Refusal> {
     let [length, first, how_many] = parse(input)?;
-    let length = Length::new(length)?;
+    let length = limit::length(SIXTEEN, length)?;
     Ok((length, asked(first, how_many, length.rows())?))
 }
 

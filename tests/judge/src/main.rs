@@ -6,11 +6,12 @@
 //! `judge digest BITS`: the digest, in hexadecimal, of the record of so many
 //! bits whose bytes are on standard input; without BITS, of all their bits.
 //! `judge counts BITS`: blocks, wires and rows of a record length.
+//! The limit is sixteen blocks everywhere.
 
 use std::io::{self, Read, Write};
 use std::process::ExitCode;
 
-use judge::length::Length;
+use judge::limit::{self, SIXTEEN};
 use judge::listing::{listing, refused};
 use judge::operations;
 use judge::refusal::Refusal;
@@ -27,13 +28,13 @@ fn standard_input() -> io::Result<Vec<u8>> {
 
 fn digest_text(length: u64, record: &[u8]) -> Result<String, Refusal> {
     let mut digest = [0; 32];
-    operations::digest(length, record, &mut digest)?;
+    operations::digest(SIXTEEN, length, record, &mut digest)?;
     let hex: String = digest.iter().map(|byte| format!("{byte:02x}")).collect();
     Ok(hex + "\n")
 }
 
 fn counts_text(length: u64) -> Result<String, Refusal> {
-    let length = Length::new(length)?;
+    let length = limit::length(SIXTEEN, length)?;
     let (blocks, wires, rows) = (length.blocks(), length.wires(), length.rows());
     Ok(format!("blocks,{blocks}\nwires,{wires}\nrows,{rows}\n"))
 }

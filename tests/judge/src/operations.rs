@@ -5,7 +5,7 @@
 use crate::forms::{Row, RowNumber, RowTable, Term};
 use crate::layout;
 use crate::length::Length;
-use crate::record::Record;
+use crate::limit;
 use crate::refusal::Refusal;
 use crate::rows;
 use crate::sm3;
@@ -23,18 +23,18 @@ pub(crate) fn long_enough(buffer: &[u8], bytes: usize) -> Result<(), Refusal> {
     Ok(())
 }
 
-/// The digest of a record into the first 32 bytes: refusals 2, 13, 14, 4.
-pub fn digest(length: u64, record: &[u8], buffer: &mut [u8]) -> Result<(), Refusal> {
-    let record = Record::new(length, record)?;
+/// The digest of a record into the first 32 bytes: refusals 21, 2, 13, 14, 22, 4.
+pub fn digest(limit: u64, length: u64, record: &[u8], buffer: &mut [u8]) -> Result<(), Refusal> {
+    let record = limit::record(limit, length, record)?;
     long_enough(buffer, DIGEST_BYTES)?;
     buffer[..DIGEST_BYTES].copy_from_slice(&sm3::hash(&record));
     Ok(())
 }
 
 /// The whole assignment for a record into the first 8 × wires bytes:
-/// refusals 2, 13, 14, 4.
-pub fn produce(length: u64, record: &[u8], buffer: &mut [u8]) -> Result<(), Refusal> {
-    let record = Record::new(length, record)?;
+/// refusals 21, 2, 13, 14, 22, 4.
+pub fn produce(limit: u64, length: u64, record: &[u8], buffer: &mut [u8]) -> Result<(), Refusal> {
+    let record = limit::record(limit, length, record)?;
     long_enough(buffer, record.length().assignment_bytes())?;
     layout::write_assignment(&record, buffer);
     Ok(())
@@ -48,15 +48,16 @@ pub struct Counts {
     pub c: usize,
 }
 
-/// One row by its number: refusals 2, 3, 4.
-pub fn row(length: u64, number: u64, buffer: &mut [u8]) -> Result<Counts, Refusal> {
-    let length = Length::new(length)?;
+/// One row by its number: refusals 21, 2, 22, 3, 4.
+pub fn row(limit: u64, length: u64, number: u64, buffer: &mut [u8]) -> Result<Counts, Refusal> {
+    let length = limit::length(limit, length)?;
     // The arguments first, so that no row is built for what is refused.
     row_arguments(length.rows(), number, buffer)?;
     row_with(&rows::rows(length), length, number, buffer)
 }
 
-/// The same for a length in range, with the rows of that length at hand.
+/// The same for a length that is allowed, with the rows of that length at hand:
+/// refusals 3, 4.
 pub fn row_with(
     table: &RowTable,
     length: Length,

@@ -4,7 +4,7 @@
 //! prints `accepted` or the refusal as `rows` does".
 
 use crate::check;
-use crate::length::Length;
+use crate::limit::{self, SIXTEEN};
 use crate::listing::{number, refused};
 use crate::packing::unpacked;
 use crate::refusal::Refusal;
@@ -45,11 +45,12 @@ fn parse(input: &[u8]) -> Option<(Line, &[u8])> {
     Some((Line { length, digest }, &input[end + 1..]))
 }
 
-/// Refusals 1, 2, 11, 12, 7, 8, 9; `Ok` when the packed assignment is accepted.
+/// Refusals 1, 2, 11, 12, 7, 8, 9; `Ok` when the packed assignment is accepted. The
+/// limit is sixteen.
 pub fn accept(input: &[u8]) -> Result<(), Refusal> {
     let (line, packed) = parse(input).ok_or(Refusal::Line)?;
-    let assignment = unpacked(Length::new(line.length)?, packed)?;
-    check::check(line.length, &assignment, &line.digest)
+    let assignment = unpacked(limit::length(SIXTEEN, line.length)?, packed)?;
+    check::check(SIXTEEN, line.length, &assignment, &line.digest)
 }
 
 /// All that the program prints for what stood on standard input.

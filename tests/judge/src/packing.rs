@@ -7,12 +7,13 @@ use crate::bits;
 use crate::entries;
 use crate::forms::Wire;
 use crate::length::Length;
+use crate::limit;
 use crate::operations::long_enough;
 use crate::refusal::Refusal;
 
-/// An assignment into its packed bytes: refusals 2, 4, 6, 20, 10.
-pub fn pack(length: u64, assignment: &[u8], buffer: &mut [u8]) -> Result<(), Refusal> {
-    let length = Length::new(length)?;
+/// An assignment into its packed bytes: refusals 21, 2, 22, 4, 6, 20, 10.
+pub fn pack(limit: u64, length: u64, assignment: &[u8], buffer: &mut [u8]) -> Result<(), Refusal> {
+    let length = limit::length(limit, length)?;
     long_enough(buffer, length.packed_bytes())?;
     length.right_assignment(assignment)?;
     let packed = packed(&entries::read(assignment)?)?;
@@ -20,9 +21,9 @@ pub fn pack(length: u64, assignment: &[u8], buffer: &mut [u8]) -> Result<(), Ref
     Ok(())
 }
 
-/// Packed bytes into "8-byte entries": refusals 2, 4, 11, 12.
-pub fn unpack(length: u64, packed: &[u8], buffer: &mut [u8]) -> Result<(), Refusal> {
-    let length = Length::new(length)?;
+/// Packed bytes into "8-byte entries": refusals 21, 2, 22, 4, 11, 12.
+pub fn unpack(limit: u64, length: u64, packed: &[u8], buffer: &mut [u8]) -> Result<(), Refusal> {
+    let length = limit::length(limit, length)?;
     long_enough(buffer, length.assignment_bytes())?;
     let assignment = unpacked(length, packed)?;
     buffer[..assignment.len()].copy_from_slice(&assignment);

@@ -21,15 +21,19 @@ pub fn spare_bits(bits: u64) -> u8 {
 }
 
 impl Record {
-    /// Refusals 2, 13, 14. 13: "the record's bytes are not the bits over 8
-    /// rounded up". 14: "a bit after the last record bit is set".
+    /// Refusals 2, 13, 14.
     pub fn new(bits: u64, bytes: &[u8]) -> Result<Record, Refusal> {
-        let length = Length::new(bits)?;
+        Record::of(Length::new(bits)?, bytes)
+    }
+
+    /// Refusals 13 and 14 for a length in range. 13: "the record's bytes are not
+    /// the bits over 8 rounded up". 14: "a bit after the last record bit is set".
+    pub(crate) fn of(length: Length, bytes: &[u8]) -> Result<Record, Refusal> {
         if bytes.len() != length.record_bytes() {
             return Err(Refusal::RecordBytes);
         }
         let last = bytes.last().copied().unwrap_or(0);
-        if last & spare_bits(bits) != 0 {
+        if last & spare_bits(length.bits() as u64) != 0 {
             return Err(Refusal::BitAfterRecord);
         }
         Ok(Record {

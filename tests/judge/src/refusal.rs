@@ -1,8 +1,8 @@
 //! "Refusals in checking order", those that packing adds, the two that lengths
 //! in bits add, the three of passage records, the two of axles between bounds,
-//! and the one of entries below the prime. Each has a number. Four carry more: 9
-//! "the lowest row that is not satisfied", 10 and 20 the "lowest wire", and 16
-//! the "lowest byte".
+//! the one of entries below the prime and the two of a limit in blocks. Each has a
+//! number. Four carry more: 9 "the lowest row that is not satisfied", 10 and 20 the
+//! "lowest wire", and 16 the "lowest byte".
 
 use crate::forms::{RowNumber, Wire};
 use crate::passage::line::Place;
@@ -49,6 +49,10 @@ pub enum Refusal {
     OutsideBand,
     /// 20. An entry of p or more; this is the lowest one's wire.
     NotBelowPrime(Wire),
+    /// 21. The limit is outside 1 to 16.
+    Limit,
+    /// 22. The length needs more blocks than the limit.
+    TooManyBlocks,
 }
 
 impl Refusal {
@@ -75,6 +79,8 @@ impl Refusal {
             Refusal::Bounds => 18,
             Refusal::OutsideBand => 19,
             Refusal::NotBelowPrime(_) => 20,
+            Refusal::Limit => 21,
+            Refusal::TooManyBlocks => 22,
         }
     }
 }

@@ -5,6 +5,7 @@ mod support;
 
 use judge::axles::{check, check_with, rows};
 use judge::field::P;
+use judge::limit::TWO;
 use judge::operations;
 use judge::refusal::Refusal;
 use support::axles::{
@@ -101,7 +102,7 @@ fn an_entry_of_p_or_more_on_any_wire_of_the_circuit() {
 fn forged(tens: u8, units: u8, appended: &[u64]) -> (Vec<u8>, [u8; 32]) {
     let record = with_bytes(tens, units);
     let mut assignment = vec![0; ASSIGNMENT];
-    operations::produce(504, &record, &mut assignment).unwrap();
+    operations::produce(TWO, 504, &record, &mut assignment).unwrap();
     for (number, &value) in appended.iter().enumerate() {
         set_entry(&mut assignment, 45_569 + number, value);
     }
@@ -168,7 +169,7 @@ fn another_band_s_assignment() {
 fn a_plain_record_s_assignment() {
     let record = line(30);
     let mut assignment = vec![0; 364_552];
-    operations::produce(504, &record, &mut assignment).unwrap();
+    operations::produce(TWO, 504, &record, &mut assignment).unwrap();
     let (digest, short) = (digest(&record), Refusal::AssignmentBytes);
     assert_eq!(check(20, 40, &digest, &assignment), Err(short));
     // With zeros behind it 9 - 3 is not 0.

@@ -5,6 +5,7 @@ mod support;
 
 use judge::axles::{self, band::Axles, layout, rows};
 use judge::forms::{RowNumber, RowTable};
+use judge::limit::TWO;
 use judge::operations;
 use support::axles::{all_bounds, bits_of, bounds, line, produced, APPENDED, ASSIGNMENT};
 use support::{entry, holds, in_range, length, plain, Plain, OLD};
@@ -142,7 +143,7 @@ fn appended_wires_by_hand() {
 fn all_other_wires_are_those_of_the_record() {
     for axles in [2, 3, 47, 99] {
         let mut plain = vec![OLD; ASSIGNMENT];
-        operations::produce(504, &line(axles), &mut plain).unwrap();
+        operations::produce(TWO, 504, &line(axles), &mut plain).unwrap();
         let assignment = produced(2, 99, &line(axles)).unwrap();
         assert!(assignment[..8 * 45_569] == plain[..8 * 45_569]);
     }

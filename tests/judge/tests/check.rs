@@ -1,12 +1,13 @@
-//! The check: its refusals in order, and damaged assignments refused with
-//! the lowest row.
+//! The check under a limit of sixteen blocks: its refusals in order, and damaged
+//! assignments refused with the lowest row.
 
 mod support;
 
-use judge::check::{check, check_with};
+use judge::check::{self, check_with};
 use judge::field::P;
 use judge::forms::{RowNumber, RowTable};
 use judge::length::Length;
+use judge::limit::SIXTEEN;
 use judge::record::Record;
 use judge::refusal::Refusal;
 use judge::{layout, rows, sm3};
@@ -45,6 +46,10 @@ impl Case {
         set_entry(&mut self.assignment, wire, before);
         answer
     }
+}
+
+fn check(bits: u64, assignment: &[u8], digest: &[u8]) -> Result<(), Refusal> {
+    check::check(SIXTEEN, bits, assignment, digest)
 }
 
 fn unsatisfied(row: u32) -> Result<(), Refusal> {

@@ -7,6 +7,7 @@ use judge::check::check;
 use judge::field::{multiply, P};
 use judge::forms::RowNumber;
 use judge::length::Length;
+use judge::limit::SIXTEEN;
 use judge::packing::pack;
 use judge::refusal::Refusal;
 use judge::{entries, operations, rows, sm3};
@@ -63,8 +64,11 @@ fn entries_p_and_2_64_minus_1_stop_reading_as_0_and_7() {
         let mut assignment = vec![0; length(0).assignment_bytes()];
         set_entry(&mut assignment, 513, value);
         let packed = &mut [0; 2_881];
-        assert_eq!(check(0, &assignment, &[0; 32]), not_below_prime(513));
-        assert_eq!(pack(0, &assignment, packed), not_below_prime(513));
+        assert_eq!(
+            check(SIXTEEN, 0, &assignment, &[0; 32]),
+            not_below_prime(513)
+        );
+        assert_eq!(pack(SIXTEEN, 0, &assignment, packed), not_below_prime(513));
     }
     let bytes = [[1, 2, 0, 0, 0, 0, 0, 0], (P - 1).to_le_bytes()];
     assert_eq!(entries::read(&bytes.concat()), Ok(vec![513, P - 1]));
@@ -101,6 +105,9 @@ fn row_32576_at_length_0() {
 #[test]
 fn row_32832_at_length_0_is_refusal_3() {
     let mut buffer = [0; operations::ROW_BYTES];
-    assert_eq!(operations::row(0, 32_832, &mut buffer), Err(Refusal::Row));
-    assert!(operations::row(0, 32_831, &mut buffer).is_ok());
+    assert_eq!(
+        operations::row(SIXTEEN, 0, 32_832, &mut buffer),
+        Err(Refusal::Row)
+    );
+    assert!(operations::row(SIXTEEN, 0, 32_831, &mut buffer).is_ok());
 }

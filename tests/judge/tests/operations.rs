@@ -1,11 +1,25 @@
-//! Digest, row and produce: refusals in order and the bytes they write.
+//! Digest, row and produce under a limit of sixteen blocks: refusals in order and
+//! the bytes they write.
 
 mod support;
 
-use judge::operations::{digest, produce, row, row_with, Counts, ROW_BYTES};
+use judge::limit::SIXTEEN;
+use judge::operations::{self, row_with, Counts, ROW_BYTES};
 use judge::refusal::Refusal;
 use judge::{layout, rows, sm3};
 use support::{entry, length, record, untouched, LENGTHS, OLD};
+
+fn digest(bits: u64, record: &[u8], buffer: &mut [u8]) -> Result<(), Refusal> {
+    operations::digest(SIXTEEN, bits, record, buffer)
+}
+
+fn produce(bits: u64, record: &[u8], buffer: &mut [u8]) -> Result<(), Refusal> {
+    operations::produce(SIXTEEN, bits, record, buffer)
+}
+
+fn row(bits: u64, number: u64, buffer: &mut [u8]) -> Result<Counts, Refusal> {
+    operations::row(SIXTEEN, bits, number, buffer)
+}
 
 #[test]
 fn digest_writes_32_bytes() {

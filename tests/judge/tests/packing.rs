@@ -1,4 +1,5 @@
-//! Pack, unpack and the program `packed`, by facts worked out by hand.
+//! Pack and unpack under a limit of sixteen blocks, and the program `packed`, by
+//! facts worked out by hand.
 
 mod support;
 
@@ -6,8 +7,9 @@ use std::ops::Range;
 
 use judge::field::P;
 use judge::forms::Wire;
+use judge::limit::SIXTEEN;
 use judge::packed::answer;
-use judge::packing::{pack, unpack};
+use judge::packing;
 use judge::refusal::Refusal;
 use judge::{layout, sm3};
 use support::{
@@ -27,6 +29,14 @@ fn with(entries: &[(usize, u64)]) -> Vec<u8> {
         set_entry(&mut assignment, wire, value);
     }
     assignment
+}
+
+fn pack(bits: u64, assignment: &[u8], buffer: &mut [u8]) -> Result<(), Refusal> {
+    packing::pack(SIXTEEN, bits, assignment, buffer)
+}
+
+fn unpack(bits: u64, packed: &[u8], buffer: &mut [u8]) -> Result<(), Refusal> {
+    packing::unpack(SIXTEEN, bits, packed, buffer)
 }
 
 fn packed(bits: u64, assignment: &[u8]) -> Result<Vec<u8>, Refusal> {

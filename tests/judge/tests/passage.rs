@@ -3,6 +3,7 @@
 mod support;
 
 use judge::forms::RowNumber;
+use judge::limit::TWO;
 use judge::operations;
 use judge::passage::line::Place;
 use judge::passage::{check, read, seal, write, Numbers, Passage};
@@ -340,7 +341,7 @@ fn a_sealed_line_is_accepted() {
     }
     assert_eq!(entry(assignment, 513 + 504), 1);
     let mut produced = vec![OLD; ASSIGNMENT];
-    assert_eq!(operations::produce(504, LINE, &mut produced), Ok(()));
+    assert_eq!(operations::produce(TWO, 504, LINE, &mut produced), Ok(()));
     assert!(produced == assignment);
     assert_eq!(check(digest, assignment), Ok(()));
     // The padding's 1 turned over: row 256 + m is that of block bit m.
@@ -414,8 +415,8 @@ fn check_takes_any_record_of_504_bits_and_no_other() {
     for (bits, must) in [(504, Ok(())), (503, Err(9)), (505, Err(9)), (496, Err(9))] {
         let record = support::record(bits, 3);
         let (mut digest, mut assignment) = ([0; 32], vec![0; ASSIGNMENT]);
-        operations::digest(bits, record.bytes(), &mut digest).unwrap();
-        operations::produce(bits, record.bytes(), &mut assignment).unwrap();
+        operations::digest(TWO, bits, record.bytes(), &mut digest).unwrap();
+        operations::produce(TWO, bits, record.bytes(), &mut assignment).unwrap();
         let answer = check(&digest, &assignment).map_err(Refusal::number);
         assert_eq!(answer, must, "{bits} bits");
     }

@@ -8,6 +8,7 @@ use judge::check::{check, check_with};
 use judge::field::P;
 use judge::forms::RowTable;
 use judge::length::{Length, LONGEST};
+use judge::limit::SIXTEEN;
 use judge::record::Record;
 use judge::refusal::Refusal;
 use judge::{layout, rows, sm3};
@@ -103,12 +104,12 @@ impl Trial {
     }
 
     fn lengths(&mut self) {
-        let long = check(LONGEST + 1, &self.assignment, &self.digest);
+        let long = check(SIXTEEN, LONGEST + 1, &self.assignment, &self.digest);
         self.line("length", long);
-        let digest = check(self.bits, &self.assignment, &self.digest[..31]);
+        let digest = check(SIXTEEN, self.bits, &self.assignment, &self.digest[..31]);
         self.line("digest31", digest);
         let short = &self.assignment[..self.assignment.len() - 1];
-        let short = check(self.bits, short, &self.digest);
+        let short = check(SIXTEEN, self.bits, short, &self.digest);
         self.line("short", short);
     }
 

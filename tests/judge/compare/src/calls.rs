@@ -8,6 +8,7 @@ use judge::check::check_with;
 use judge::field::P;
 use judge::forms::{Row, RowTable};
 use judge::length::Length;
+use judge::limit::{self, SIXTEEN};
 use judge::operations::{self, Counts};
 use judge::packing;
 use judge::record::Record;
@@ -36,6 +37,12 @@ pub struct Written<'a> {
     pub library: &'a Library<'a>,
 }
 
+/// A call that reads a slice, for the report of a difference.
+fn lent_as(limit: u64, length: u64, read: &[u8], note: &str) -> String {
+    let bytes = read.len();
+    format!("limit {limit}, {length} bits, {bytes} bytes, {note}")
+}
+
 impl Calls {
     pub fn new(seed: u64, stream: u64) -> Calls {
         Calls {
@@ -59,7 +66,8 @@ impl Calls {
         }
     }
 
-    /// Compares memory around a lent slice with what it must hold.
+    /// Compares memory around a lent slice with what it must hold. Returns whether
+    /// they are the same.
     pub fn memory(
         &mut self,
         operation: Operation,
@@ -67,13 +75,15 @@ impl Calls {
         must: &Lent,
         holds: &Lent,
         what: impl Display,
-    ) {
-        if must != holds {
+    ) -> bool {
+        let same = must == holds;
+        if !same {
             let at = must.first_difference(holds);
             self.tally.difference(format!(
                 "{operation:?}, {what}: the {slice}'s memory differs, first at byte {at:?} of it"
             ));
         }
+        same
     }
 
     /// A call that reads one slice and writes a buffer of that length.
@@ -103,6 +113,7 @@ impl Calls {
     /// result, OpenSSL must agree with it. Returns the judge's answer.
     pub fn digest(
         &mut self,
+        limit: u64,
         length: u64,
         record: &[u8],
         out_len: usize,
@@ -110,9 +121,9 @@ impl Calls {
     ) -> Result<(), Refusal> {
         let call = Written {
             operation: Operation::Digest,
-            what: &format!("{length} bits in {} bytes, {note}", record.len()),
-            judge: &|record, out| operations::digest(length, record, out),
-            library: &|empty, record, out| host::digest(empty, length, record, out),
+            what: &lent_as(limit, length, record, note),
+            judge: &|record, out| operations::digest(limit, length, record, out),
+            library: &|empty, record, out| host::digest(empty, limit, length, record, out),
         };
         let judged = self.written(call, record, out_len);
         if judged.is_ok() {
@@ -141,6 +152,7 @@ impl Calls {
     /// judge's answer.
     pub fn produce(
         &mut self,
+        limit: u64,
         length: u64,
         record: &[u8],
         out_len: usize,
@@ -148,9 +160,9 @@ impl Calls {
     ) -> Result<(), Refusal> {
         let call = Written {
             operation: Operation::Produce,
-            what: &format!("{length} bits in {} bytes, {note}", record.len()),
-            judge: &|record, out| operations::produce(length, record, out),
-            library: &|empty, record, out| host::produce(empty, length, record, out),
+            what: &lent_as(limit, length, record, note),
+            judge: &|record, out| operations::produce(limit, length, record, out),
+            library: &|empty, record, out| host::produce(empty, limit, length, record, out),
         };
         self.written(call, record, out_len)
     }
@@ -159,6 +171,7 @@ impl Calls {
     /// the judge's answer.
     pub fn pack(
         &mut self,
+        limit: u64,
         length: u64,
         assignment: &[u8],
         out_len: usize,
@@ -166,9 +179,9 @@ impl Calls {
     ) -> Result<(), Refusal> {
         let call = Written {
             operation: Operation::Pack,
-            what: &format!("{length} bits, {} bytes, {note}", assignment.len()),
-            judge: &|assignment, out| packing::pack(length, assignment, out),
-            library: &|empty, assignment, out| host::pack(empty, length, assignment, out),
+            what: &lent_as(limit, length, assignment, note),
+            judge: &|assignment, out| packing::pack(limit, length, assignment, out),
+            library: &|empty, assignment, out| host::pack(empty, limit, length, assignment, out),
         };
         self.written(call, assignment, out_len)
     }
@@ -177,6 +190,7 @@ impl Calls {
     /// judge's answer.
     pub fn unpack(
         &mut self,
+        limit: u64,
         length: u64,
         packed: &[u8],
         out_len: usize,
@@ -184,44 +198,53 @@ impl Calls {
     ) -> Result<(), Refusal> {
         let call = Written {
             operation: Operation::Unpack,
-            what: &format!("{length} bits, {} bytes, {note}", packed.len()),
-            judge: &|packed, out| packing::unpack(length, packed, out),
-            library: &|empty, packed, out| host::unpack(empty, length, packed, out),
+            what: &lent_as(limit, length, packed, note),
+            judge: &|packed, out| packing::unpack(limit, length, packed, out),
+            library: &|empty, packed, out| host::unpack(empty, limit, length, packed, out),
         };
         self.written(call, packed, out_len)
     }
 
     /// One row into a buffer of that length. The table must be that of the
-    /// length where the length is in range.
-    pub fn row(&mut self, table: &RowTable, length: u64, row: u64, out_len: usize) {
-        self.row_by(length, row, out_len, |buffer| {
-            operations::row_with(table, Length::new(length)?, row, buffer)
-        });
+    /// length where the length is in range. Returns the judge's answer.
+    pub fn row(
+        &mut self,
+        table: &RowTable,
+        limit: u64,
+        length: u64,
+        row: u64,
+        out_len: usize,
+    ) -> Result<(), Refusal> {
+        self.row_by(limit, length, row, out_len, |buffer| {
+            operations::row_with(table, limit::length(limit, length)?, row, buffer)
+        })
     }
 
-    /// The same with the judge's row at hand.
+    /// The same under sixteen with the judge's row at hand.
     pub fn row_at_hand(&mut self, at_hand: Row<'_>, length: u64, row: u64, out_len: usize) {
-        self.row_by(length, row, out_len, |buffer| {
+        let _ = self.row_by(SIXTEEN, length, row, out_len, |buffer| {
             operations::row_at_hand(at_hand, buffer)
         });
     }
 
     fn row_by(
         &mut self,
+        limit: u64,
         length: u64,
         row: u64,
         out_len: usize,
         judge: impl Fn(&mut [u8]) -> Result<Counts, Refusal>,
-    ) {
-        let what = format!("{length} bits, row {row}, buffer of {out_len}");
+    ) -> Result<(), Refusal> {
+        let what = format!("limit {limit}, {length} bits, row {row}, buffer of {out_len}");
         let empty = self.empty();
         let mut out = Lent::buffer(out_len, &mut self.random);
         let mut must = out.clone();
         let judged = judge(must.slice_mut());
-        let answer = host::row(empty, length, row, out.slice_mut());
+        let answer = host::row(empty, limit, length, row, out.slice_mut());
         self.answers(Operation::Row, answers::row(judged), answer, &what);
         self.memory(Operation::Row, "buffer", &must, &out, &what);
         self.coefficients(Operation::Row, judged, out.slice(), &what);
+        judged.map(|_| ())
     }
 
     /// Holds the coefficients of a row that the library wrote to the paper: as
@@ -252,14 +275,15 @@ impl Calls {
     pub fn check(
         &mut self,
         table: &RowTable,
+        limit: u64,
         length: u64,
         digest: &[u8],
         assignment: &[u8],
         note: &str,
     ) -> Result<(), Refusal> {
-        let judged =
-            Length::new(length).and_then(|length| check_with(table, length, assignment, digest));
-        self.check_known(judged, length, digest, assignment, note);
+        let judged = limit::length(limit, length)
+            .and_then(|length| check_with(table, length, assignment, digest));
+        self.check_known(judged, limit, length, digest, assignment, note);
         judged
     }
 
@@ -267,17 +291,18 @@ impl Calls {
     pub fn check_known(
         &mut self,
         known: Result<(), Refusal>,
+        limit: u64,
         length: u64,
         digest: &[u8],
         assignment: &[u8],
         note: &str,
     ) {
-        let what = format!("{length} bits, {note}");
+        let what = format!("limit {limit}, {length} bits, {note}");
         let held = Lent::holding(digest, &mut self.random);
         let read = Lent::holding(assignment, &mut self.random);
         let (held_before, read_before) = (held.clone(), read.clone());
         let empty = self.empty();
-        let answer = host::check(empty, length, held.slice(), read.slice());
+        let answer = host::check(empty, limit, length, held.slice(), read.slice());
         self.answers(Operation::Check, answers::plain(known), answer, &what);
         self.memory(Operation::Check, "digest", &held_before, &held, &what);
         self.memory(Operation::Check, "assignment", &read_before, &read, &what);
@@ -286,7 +311,7 @@ impl Calls {
         }
     }
 
-    /// The check of an assignment against 32 of its own bytes.
+    /// The check of an assignment against 32 of its own bytes, under sixteen.
     pub fn check_own_bytes(&mut self, table: &RowTable, length: Length, bytes: &[u8], at: usize) {
         let what = format!(
             "{} bits, the digest is the assignment's bytes from {at} on",
@@ -296,7 +321,8 @@ impl Calls {
         let before = lent.clone();
         let (digest, assignment) = (&lent.slice()[at..at + 32], lent.slice());
         let judged = check_with(table, length, assignment, digest);
-        let answer = host::check(Empty::Null, length.bits() as u64, digest, assignment);
+        let bits = length.bits() as u64;
+        let answer = host::check(Empty::Null, SIXTEEN, bits, digest, assignment);
         self.answers(Operation::Check, answers::plain(judged), answer, &what);
         self.memory(Operation::Check, "assignment", &before, &lent, &what);
         self.tally.count("checks with slices that overlap", 1);

@@ -20,6 +20,7 @@ mod damage;
 mod forge;
 mod kinds;
 mod lent;
+mod limits;
 mod listings;
 mod openssl;
 mod packed;

@@ -8,25 +8,32 @@ use crate::answers;
 use crate::calls::Calls;
 use crate::claim::Claim;
 use crate::damage::NO_BITS;
+use crate::limits::{self, SIXTEEN};
 use crate::prime::{self, FROM_PRIME};
-use crate::refusals::{choices, first, lengths_out};
-use crate::sections::{enough, record};
+use crate::refusals::{choices, first, lengths_out, possible};
+use crate::sections::{enough, record, some_limits};
 
 /// The packed bytes of an assignment that has some.
 pub fn packed(length: Length, assignment: &[u8]) -> Vec<u8> {
     let mut bytes = vec![0; length.packed_bytes()];
-    packing::pack(length.bits() as u64, assignment, &mut bytes).expect("entries that are bits");
+    let bits = length.bits() as u64;
+    packing::pack(SIXTEEN, bits, assignment, &mut bytes).expect("entries that are bits");
     bytes
 }
 
-/// An assignment packed, and its packed bytes unpacked.
+/// An assignment packed, and its packed bytes unpacked, under limits that allow it,
+/// and now and then under one that does not.
 fn there_and_back(calls: &mut Calls, length: Length, wide: &[u8], small: &[u8], note: &str) {
     let (bits, out_len) = (length.bits() as u64, enough(calls, small.len()));
-    let judged = calls.pack(bits, wide, out_len, note);
-    calls.must_be(0, judged, note);
+    for (limit, must) in some_limits(calls, length) {
+        let judged = calls.pack(limit, bits, wide, out_len, note);
+        calls.must_be(must, judged, note);
+    }
     let out_len = enough(calls, wide.len());
-    let judged = calls.unpack(bits, small, out_len, note);
-    calls.must_be(0, judged, note);
+    for (limit, must) in some_limits(calls, length) {
+        let judged = calls.unpack(limit, bits, small, out_len, note);
+        calls.must_be(must, judged, note);
+    }
 }
 
 /// So many records' own assignments, as they are and with multiples of p added,
@@ -81,7 +88,7 @@ fn with_no_bits(calls: &mut Calls, length: u64, right: &Claim, entries: &[(usize
     }
     let note = format!("wires and entries {entries:?}");
     let out_len = enough(calls, claim.wires().div_ceil(8));
-    let judged = calls.pack(length, &claim.assignment, out_len, &note);
+    let judged = calls.pack(SIXTEEN, length, &claim.assignment, out_len, &note);
     let lowest = entries.iter().map(|&(wire, _)| wire).min();
     let known = answers::no_bit(lowest.unwrap_or(0));
     calls.must_answer(known, answers::plain(judged), &note);
@@ -97,7 +104,8 @@ pub fn spare_bits(calls: &mut Calls, length: Length) {
         for last in [0x00, 0x80] {
             small[length.packed_bytes() - 1] = last | spare;
             let note = format!("last byte {:#04x}", last | spare);
-            let judged = calls.unpack(bits, &small, length.assignment_bytes(), &note);
+            let exact = length.assignment_bytes();
+            let judged = calls.unpack(SIXTEEN, bits, &small, exact, &note);
             calls.must_be(12, judged, &note);
         }
     }
@@ -118,8 +126,8 @@ pub fn all_sizes(calls: &mut Calls, length: Length) {
     let (bits, wide) = (length.bits() as u64, all(length.assignment_bytes()));
     let small = all(length.packed_bytes());
     for &(wide, small) in &pairs(&wide, &small) {
-        let _ = calls.pack(bits, &vec![0; wide], small, "zeros");
-        let _ = calls.unpack(bits, &vec![0; small], wide, "zeros");
+        let _ = calls.pack(SIXTEEN, bits, &vec![0; wide], small, "zeros");
+        let _ = calls.unpack(SIXTEEN, bits, &vec![0; small], wide, "zeros");
     }
 }
 
@@ -128,10 +136,11 @@ fn pairs(one: &[usize], other: &[usize]) -> Vec<(usize, usize)> {
     one.iter().flat_map(with).collect()
 }
 
-type Call = fn(&mut Calls, u64, &[u8], usize, &str) -> Result<(), Refusal>;
+type Call = fn(&mut Calls, u64, u64, &[u8], usize, &str) -> Result<(), Refusal>;
 
 /// A call of pack or unpack, its buffer by the size.
 struct Lending {
+    blocks: usize,
     length: u64,
     read: Vec<u8>,
     out_len: usize,
@@ -144,6 +153,7 @@ impl Lending {
     /// order of the refusals must be returned.
     fn with(mut self, calls: &mut Calls, faults: &[u8], size: u8) {
         let random = &mut calls.random;
+        let limit = limits::with_faults(faults, self.blocks, random);
         if faults.contains(&2) {
             self.length = random.pick(&lengths_out(self.length));
         }
@@ -156,7 +166,7 @@ impl Lending {
             self.read.resize(random.pick(&sizes), 0);
         }
         let note = format!("the faults of refusals {faults:?}");
-        let judged = (self.call)(calls, self.length, &self.read, self.out_len, &note);
+        let judged = (self.call)(calls, limit, self.length, &self.read, self.out_len, &note);
         calls.must_be(first(faults), judged, &note);
         let name = "packs and unpacks with every choice of faults";
         calls.tally.count(name, 1);
@@ -166,7 +176,7 @@ impl Lending {
 /// Pack and unpack with every choice of faults, so many times.
 pub fn refusals(calls: &mut Calls, length: Length, times: usize) {
     let right = Claim::of(&calls.random.record(length.bits() as u64));
-    for faults in choices(&[2, 4, 6, 20, 10], times) {
+    for faults in choices(&possible(&[21, 2, 22, 4, 6, 20, 10], length), times) {
         let mut claim = right.clone();
         if faults.contains(&10) {
             let wire = calls.random.below(claim.wires());
@@ -176,6 +186,7 @@ pub fn refusals(calls: &mut Calls, length: Length, times: usize) {
             prime::put(&mut claim, &mut calls.random);
         }
         let right = Lending {
+            blocks: length.blocks(),
             length: length.bits() as u64,
             read: claim.assignment,
             out_len: length.packed_bytes(),
@@ -183,12 +194,13 @@ pub fn refusals(calls: &mut Calls, length: Length, times: usize) {
         };
         right.with(calls, &faults, 6);
     }
-    for faults in choices(&[2, 4, 11, 12], times) {
+    for faults in choices(&possible(&[21, 2, 22, 4, 11, 12], length), times) {
         let mut small = packed(length, &right.assignment);
         if faults.contains(&12) {
             small[length.packed_bytes() - 1] |= calls.random.range(1, 0x80) as u8;
         }
         let right = Lending {
+            blocks: length.blocks(),
             length: length.bits() as u64,
             read: small,
             out_len: length.assignment_bytes(),
@@ -198,33 +210,36 @@ pub fn refusals(calls: &mut Calls, length: Length, times: usize) {
     }
 }
 
-/// Both sides of each limit at one length: all sizes exact, and one byte less
+/// Both sides of each right size at one length: all sizes exact, and one byte less
 /// of the slice that is read and of the buffer.
-pub fn limits(calls: &mut Calls, length: Length) {
+pub fn edges(calls: &mut Calls, length: Length) {
     let right = Claim::of(&calls.random.record(length.bits() as u64));
     let (bits, small) = (length.bits() as u64, packed(length, &right.assignment));
     let (wide, exact) = (right.assignment, length.assignment_bytes());
     for (less, out_less) in [(0, 0), (0, 1), (1, 0), (1, 1)] {
         let note = format!("{less} bytes less to read, {out_less} to write");
-        let _ = calls.pack(bits, &wide[less..], small.len() - out_less, &note);
-        let _ = calls.unpack(bits, &small[..small.len() - less], exact - out_less, &note);
+        let (read, out_len) = (&wide[less..], small.len() - out_less);
+        let _ = calls.pack(SIXTEEN, bits, read, out_len, &note);
+        let (read, out_len) = (&small[..small.len() - less], exact - out_less);
+        let _ = calls.unpack(SIXTEEN, bits, read, out_len, &note);
     }
 }
 
-/// Refusal 2 at the thousand lengths above 8,127, at 8,128 with the sizes that
-/// 17 blocks would have, and at lengths that would be in range after losing
-/// upper bits.
+/// Refusal 2 under any limit at the thousand lengths above 8,127, at 8,128 with the
+/// sizes that 17 blocks would have, and at lengths that would be in range after
+/// losing upper bits.
 pub fn lengths_above(calls: &mut Calls, length: Length) {
     let (wide, small) = (length.assignment_bytes(), length.packed_bytes());
     for above in (LONGEST + 1..=LONGEST + 1_000).chain(lengths_out(length.bits() as u64)) {
-        length_above(calls, above, wide, small);
+        let limit = limits::any(&mut calls.random);
+        length_above(calls, limit, above, wide, small);
     }
-    length_above(calls, LONGEST + 1, 8 * 383_489, 47_937);
+    length_above(calls, SIXTEEN, LONGEST + 1, 8 * 383_489, 47_937);
 }
 
-fn length_above(calls: &mut Calls, length: u64, wide: usize, small: usize) {
-    let judged = calls.pack(length, &vec![0; wide], small, "zeros");
+fn length_above(calls: &mut Calls, limit: u64, length: u64, wide: usize, small: usize) {
+    let judged = calls.pack(limit, length, &vec![0; wide], small, "zeros");
     calls.must_be(2, judged, "a length above 8,127");
-    let judged = calls.unpack(length, &vec![0; small], wide, "zeros");
+    let judged = calls.unpack(limit, length, &vec![0; small], wide, "zeros");
     calls.must_be(2, judged, "a length above 8,127");
 }

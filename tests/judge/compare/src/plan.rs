@@ -6,7 +6,8 @@ use judge::length::{Length, LONGEST};
 use crate::calls::Calls;
 use crate::claim::Ground;
 use crate::program::{Program, Programs};
-use crate::{axles, kinds, listings, packed, packing, passage, prime, records, refusals, sections};
+use crate::{axles, kinds, limits, listings, packed, packing, passage, prime};
+use crate::{records, refusals, sections};
 
 /// How much of everything. Lengths are in bits.
 pub struct Amounts {
@@ -41,6 +42,7 @@ pub struct Amounts {
     lines: usize,
     /// Claims at random lengths, and as many damaged lines, to `packed`.
     claims: usize,
+    limits: limits::Amounts,
     passages: passage::Amounts,
     axles: axles::Amounts,
 }
@@ -65,6 +67,7 @@ impl Amounts {
             refused: vec![(0, 2), (3, 2), (453, 1)],
             lines: 40,
             claims: 10,
+            limits: limits::Amounts::short(),
             passages: passage::Amounts::short(),
             axles: axles::Amounts::short(),
         }
@@ -104,6 +107,7 @@ impl Amounts {
             ],
             lines: 1_000,
             claims: 200,
+            limits: limits::Amounts::full(),
             passages: passage::Amounts::full(),
             axles: axles::Amounts::full(),
         }
@@ -160,6 +164,7 @@ pub fn jobs(amounts: &Amounts, seed: u64, programs: &Programs) -> Vec<Job> {
     }
     claim_jobs(&mut jobs, amounts, seed);
     refusal_jobs(&mut jobs, amounts);
+    jobs.extend(limits::jobs(&amounts.limits));
     packed_jobs(&mut jobs, amounts, &programs.packed);
     jobs.extend(passage::jobs(&amounts.passages));
     jobs.extend(axles::jobs(&amounts.axles, programs));
@@ -221,6 +226,7 @@ fn refusal_jobs(jobs: &mut Vec<Job>, amounts: &Amounts) {
             records::buffers(calls, ground.length);
             records::faults(calls, ground.length, 4 * times);
             refusals::rows(calls, &ground);
+            refusals::row_faults(calls, &ground, 4 * times);
             refusals::checks(calls, &ground, times);
             refusals::lengths_above(calls, &ground);
             refusals::overlapping(calls, &ground, 4 * times);
@@ -339,18 +345,18 @@ fn padding_job(amounts: &Amounts, bits: u64) -> Job {
     })
 }
 
-/// Rows, checks and limits, most of which need the whole table.
+/// Rows, checks and sizes, most of which need the whole table.
 fn sampled_job(amounts: &Amounts, bits: u64) -> Job {
     let (rows, damages) = (amounts.sampled_rows, amounts.some_damages);
     job(format!("rows and claims of {bits} bits"), move |calls| {
         let ground = Ground::new(bits);
         sections::sampled_rows(calls, &ground, rows);
-        refusals::limits(calls, &ground);
+        refusals::edges(calls, &ground);
         let sizes = records::exact(ground.length);
         records::bits_after(calls, ground.length, sizes);
         records::a_byte_off(calls, ground.length, sizes);
         records::other_byte_counts(calls, ground.length);
-        packing::limits(calls, ground.length);
+        packing::edges(calls, ground.length);
         packing::random_bytes(calls, ground.length);
         sections::right_claims(calls, &ground);
         sections::some_damages(calls, &ground, damages);

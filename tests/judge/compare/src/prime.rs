@@ -10,6 +10,7 @@ use judge::refusal::Refusal;
 use crate::answers;
 use crate::calls::Calls;
 use crate::claim::{Claim, Ground};
+use crate::limits::allowing;
 use crate::random::Random;
 use crate::refusals::spoil;
 use crate::sections::enough;
@@ -32,17 +33,17 @@ pub const FROM_PRIME: [u64; 9] = [
 /// judge, whose answer is returned.
 pub type Ask<'a> = dyn Fn(&mut Calls, &Claim) -> Result<(), Refusal> + 'a;
 
-/// The check of a record's claim.
+/// The check of a record's claim, under a limit that allows it.
 pub fn check(ground: &Ground) -> impl Fn(&mut Calls, &Claim) -> Result<(), Refusal> + '_ {
     |calls, claim| {
-        let (digest, assignment) = (&claim.digest, &claim.assignment);
-        calls.check(
-            &ground.table,
-            ground.bits(),
+        let Claim {
             digest,
             assignment,
-            &claim.note,
-        )
+            note,
+        } = claim;
+        let limit = allowing(ground.length.blocks(), &mut calls.random);
+        let bits = ground.bits();
+        calls.check(&ground.table, limit, bits, digest, assignment, note)
     }
 }
 
@@ -50,8 +51,9 @@ pub fn check(ground: &Ground) -> impl Fn(&mut Calls, &Claim) -> Result<(), Refus
 pub fn pack(length: Length) -> impl Fn(&mut Calls, &Claim) -> Result<(), Refusal> {
     move |calls, claim| {
         let out_len = enough(calls, length.packed_bytes());
+        let limit = allowing(length.blocks(), &mut calls.random);
         let bits = length.bits() as u64;
-        calls.pack(bits, &claim.assignment, out_len, &claim.note)
+        calls.pack(limit, bits, &claim.assignment, out_len, &claim.note)
     }
 }
 

@@ -1,14 +1,15 @@
-//! Refusals of digest and produce, the two calls that take a record: 2, 13, 14
-//! and 4, each with later faults present as well, and sizes on both sides of
-//! each limit.
+//! Refusals of digest and produce, the two calls that take a record: 21, 2, 13, 14,
+//! 22 and 4, each with later faults present as well, and sizes on both sides of
+//! each right one.
 
 use judge::length::Length;
 use judge::operations::DIGEST_BYTES;
 use judge::record::spare_bits;
 
 use crate::calls::Calls;
+use crate::limits::{self, SIXTEEN};
 use crate::random::Random;
-use crate::refusals::{choices, first, lengths_out};
+use crate::refusals::{choices, first, lengths_out, possible};
 
 /// Sizes of the buffers that digest and produce write.
 type Sizes = [usize; 2];
@@ -21,15 +22,23 @@ pub fn exact(length: Length) -> Sizes {
 pub const NO_ROOM: Sizes = [0, 0];
 
 /// Digest and produce of a record, which must both be refused in this way.
-pub fn both(calls: &mut Calls, bits: u64, record: &[u8], sizes: Sizes, must: u8, note: &str) {
-    let judged = calls.digest(bits, record, sizes[0], note);
+pub fn both(
+    calls: &mut Calls,
+    limit: u64,
+    bits: u64,
+    record: &[u8],
+    sizes: Sizes,
+    must: u8,
+    note: &str,
+) {
+    let judged = calls.digest(limit, bits, record, sizes[0], note);
     calls.must_be(must, judged, note);
-    let judged = calls.produce(bits, record, sizes[1], note);
+    let judged = calls.produce(limit, bits, record, sizes[1], note);
     calls.must_be(must, judged, note);
 }
 
-/// Refusal 14: each bit after the last record bit set alone, then all of them.
-/// Whole bytes have none.
+/// Refusal 14: each bit after the last record bit set alone, then all of them, under
+/// any limit. Whole bytes have none.
 pub fn bits_after(calls: &mut Calls, length: Length, sizes: Sizes) {
     let bits = length.bits() as u64;
     let spare = spare_bits(bits);
@@ -41,13 +50,14 @@ pub fn bits_after(calls: &mut Calls, length: Length, sizes: Sizes) {
         let mut record = right.bytes().to_vec();
         record[bits as usize / 8] |= set;
         let note = format!("spare bits {set:#04x} set");
-        both(calls, bits, &record, sizes, 14, &note);
+        let limit = limits::any(&mut calls.random);
+        both(calls, limit, bits, &record, sizes, 14, &note);
         calls.tally.count("records with spare bits set", 1);
     }
 }
 
 /// Refusal 13: a byte too few and one too many, with zeros, and with ones,
-/// which set bits after the last record bit too.
+/// which set bits after the last record bit too, under any limit.
 pub fn a_byte_off(calls: &mut Calls, length: Length, sizes: Sizes) {
     let exact = length.record_bytes();
     let fewer = exact.checked_sub(1);
@@ -55,7 +65,8 @@ pub fn a_byte_off(calls: &mut Calls, length: Length, sizes: Sizes) {
         for byte in [0x00, 0xff] {
             let note = format!("bytes {byte:#04x}");
             let record = vec![byte; count];
-            both(calls, length.bits() as u64, &record, sizes, 13, &note);
+            let (limit, bits) = (limits::any(&mut calls.random), length.bits() as u64);
+            both(calls, limit, bits, &record, sizes, 13, &note);
             calls.tally.count("records a byte off", 1);
         }
     }
@@ -94,7 +105,7 @@ fn some_length(length: Length, faults: &[u8], random: &mut Random) -> u64 {
 
 /// A record of such a length without the faults of refusals 13 and 14 or with
 /// them.
-fn some_record(bits: u64, length: Length, faults: &[u8], random: &mut Random) -> Vec<u8> {
+pub fn some_record(bits: u64, length: Length, faults: &[u8], random: &mut Random) -> Vec<u8> {
     let exact = bytes_needed(bits, length);
     let (mut record, spare) = (random.bytes(exact), spare_bits(bits));
     if let Some(last) = record.last_mut() {
@@ -121,36 +132,29 @@ fn some_sizes(length: Length, faults: &[u8], random: &mut Random) -> Sizes {
 /// Digest and produce with every choice of faults, so many times. The first
 /// fault in the order of the refusals must be returned.
 pub fn faults(calls: &mut Calls, length: Length, times: usize) {
-    let all: &[u8] = match spare_bits(length.bits() as u64) {
-        0 => &[2, 13, 4],
-        _ => &[2, 13, 14, 4],
-    };
-    for faults in choices(all, times) {
+    let mut all = possible(&[21, 2, 13, 14, 22, 4], length);
+    all.retain(|&refusal| refusal != 14 || spare_bits(length.bits() as u64) != 0);
+    for faults in choices(&all, times) {
         let random = &mut calls.random;
+        let limit = limits::with_faults(&faults, length.blocks(), random);
         let bits = some_length(length, &faults, random);
         let record = some_record(bits, length, &faults, random);
-        let sizes = some_sizes(length, &faults, random);
+        let (sizes, must) = (some_sizes(length, &faults, random), first(&faults));
         let note = format!("the faults of refusals {faults:?}");
-        both(calls, bits, &record, sizes, first(&faults), &note);
+        both(calls, limit, bits, &record, sizes, must, &note);
         let name = "digests and produces with every choice of faults";
         calls.tally.count(name, 2);
     }
 }
 
 /// All byte counts of `other_counts`, with buffers that are long enough and
-/// with none.
+/// with none, under any limit.
 pub fn other_byte_counts(calls: &mut Calls, length: Length) {
     for count in other_counts(length.record_bytes(), length) {
         let record = calls.random.bytes(count);
         for sizes in [exact(length), NO_ROOM] {
-            both(
-                calls,
-                length.bits() as u64,
-                &record,
-                sizes,
-                13,
-                "another size",
-            );
+            let (limit, bits) = (limits::any(&mut calls.random), length.bits() as u64);
+            both(calls, limit, bits, &record, sizes, 13, "another size");
         }
     }
 }
@@ -173,10 +177,10 @@ pub fn buffers(calls: &mut Calls, length: Length) {
     for bits in [length.bits() as u64].into_iter().chain(LENT_OUT) {
         let record = some_record(bits, length, &[], &mut calls.random);
         for out_len in (0..=digest + 8).chain([4 * digest]) {
-            let _ = calls.digest(bits, &record, out_len, "any buffer");
+            let _ = calls.digest(SIXTEEN, bits, &record, out_len, "any buffer");
         }
         for out_len in [0, 1, 8].into_iter().chain(around) {
-            let _ = calls.produce(bits, &record, out_len, "any buffer");
+            let _ = calls.produce(SIXTEEN, bits, &record, out_len, "any buffer");
         }
     }
 }

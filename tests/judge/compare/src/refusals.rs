@@ -1,13 +1,14 @@
 //! Every refusal with every later fault present as well, and numbers and
-//! sizes on both sides of each limit.
+//! sizes on both sides of each right one.
 
 use judge::field::P;
-use judge::length::LONGEST;
+use judge::length::{Length, LONGEST};
 use judge::operations::{DIGEST_BYTES, ROW_BYTES};
 use judge::refusal::Refusal;
 
 use crate::calls::Calls;
 use crate::claim::{Claim, Ground};
+use crate::limits::{self, SIXTEEN};
 use crate::prime;
 use crate::random::Random;
 use crate::records;
@@ -41,7 +42,7 @@ pub fn lengths_out(bits: u64) -> Vec<u64> {
     [&LENGTHS_OUT[..], &widened].concat()
 }
 
-/// Rows: refusal 2, then 3, then 4.
+/// Rows under sixteen: refusal 2, then 3, then 4.
 pub fn rows(calls: &mut Calls, ground: &Ground) {
     let all = ground.length.rows() as u64;
     let numbers = [
@@ -75,14 +76,23 @@ pub fn rows(calls: &mut Calls, ground: &Ground) {
     {
         for number in numbers {
             for size in sizes {
-                calls.row(&ground.table, length, number, size);
+                let _ = calls.row(&ground.table, SIXTEEN, length, number, size);
             }
         }
     }
 }
 
-/// The seven refusals of a check, in their order.
-const CHECK_REFUSALS: [u8; 7] = [2, 5, 6, 20, 7, 8, 9];
+/// The refusals of a row and of a check, in their order.
+const ROW_REFUSALS: [u8; 5] = [21, 2, 22, 3, 4];
+const CHECK_REFUSALS: [u8; 9] = [21, 2, 22, 5, 6, 20, 7, 8, 9];
+
+/// Those of them whose faults a length may have: a record of one block has not that
+/// of 22.
+pub fn possible(refusals: &[u8], length: Length) -> Vec<u8> {
+    let mut possible = refusals.to_vec();
+    possible.retain(|&refusal| refusal != 22 || length.blocks() > 1);
+    possible
+}
 
 /// Every choice of faults of these refusals, so many times.
 pub fn choices(refusals: &[u8], times: usize) -> impl Iterator<Item = Vec<u8>> + '_ {
@@ -165,28 +175,55 @@ pub fn faulty(calls: &mut Calls, right: &Claim, length: u64, has: impl Fn(u8) ->
 /// the order of the refusals must be returned.
 pub fn checks(calls: &mut Calls, ground: &Ground, times: usize) {
     let right = ground.claim(&mut calls.random);
-    for faults in choices(&CHECK_REFUSALS, times) {
+    let (table, blocks) = (&ground.table, ground.length.blocks());
+    for faults in choices(&possible(&CHECK_REFUSALS, ground.length), times) {
         let has = |refusal| faults.contains(&refusal);
+        let limit = limits::with_faults(&faults, blocks, &mut calls.random);
         let Faulty {
             length,
             digest,
             assignment,
         } = faulty(calls, &right, ground.bits(), has);
         let note = format!("the faults of refusals {faults:?}");
-        let judged = calls.check(&ground.table, length, &digest, &assignment, &note);
+        let judged = calls.check(table, limit, length, &digest, &assignment, &note);
         calls.must_be(first(&faults), judged, &note);
         calls.tally.count("checks with every choice of faults", 1);
     }
 }
 
-/// Both sides of each limit at one length: the last row and the one after it
+/// Rows with every choice of faults, so many times, in the same way.
+pub fn row_faults(calls: &mut Calls, ground: &Ground, times: usize) {
+    let all = ground.length.rows() as u64;
+    for faults in choices(&possible(&ROW_REFUSALS, ground.length), times) {
+        let (has, random) = (|refusal| faults.contains(&refusal), &mut calls.random);
+        let limit = limits::with_faults(&faults, ground.length.blocks(), random);
+        let length = match has(2) {
+            true => random.pick(&lengths_out(ground.bits())),
+            false => ground.bits(),
+        };
+        let number = match has(3) {
+            true => random.pick(&[all, all + 1, 1 << 32, u64::MAX]),
+            false => random.below(all as usize) as u64,
+        };
+        let size = match has(4) {
+            true => random.pick(&[0, 1, 12, ROW_BYTES - 12, ROW_BYTES - 1]),
+            false => ROW_BYTES + random.pick(&[0, 1, 100]),
+        };
+        let judged = calls.row(&ground.table, limit, length, number, size);
+        let note = format!("the faults of refusals {faults:?}");
+        calls.must_be(first(&faults), judged, &note);
+        calls.tally.count("rows with every choice of faults", 1);
+    }
+}
+
+/// Both sides of each right size at one length: the last row and the one after it
 /// in a buffer of 1,955 and of 1,956 bytes; one byte less than a digest, its
 /// buffer, an assignment and its buffer have.
-pub fn limits(calls: &mut Calls, ground: &Ground) {
+pub fn edges(calls: &mut Calls, ground: &Ground) {
     let (bits, all) = (ground.bits(), ground.length.rows() as u64);
     for number in [all - 1, all] {
         for size in [ROW_BYTES - 1, ROW_BYTES] {
-            calls.row(&ground.table, bits, number, size);
+            let _ = calls.row(&ground.table, SIXTEEN, bits, number, size);
         }
     }
     let record = calls.random.record(bits);
@@ -195,41 +232,53 @@ pub fn limits(calls: &mut Calls, ground: &Ground) {
     } = Claim::of(&record);
     let short = &assignment[..assignment.len() - 1];
     let sizes = [DIGEST_BYTES - 1, short.len()];
-    records::both(calls, bits, record.bytes(), sizes, 4, "a byte less");
+    let (table, note) = (&ground.table, "a byte less");
+    records::both(calls, SIXTEEN, bits, record.bytes(), sizes, 4, note);
     for (digest, assignment, number) in [(&digest[..31], &assignment[..], 5), (&digest, short, 6)] {
-        let judged = calls.check(&ground.table, bits, digest, assignment, "a byte less");
-        calls.must_be(number, judged, "a byte less");
+        let judged = calls.check(table, SIXTEEN, bits, digest, assignment, note);
+        calls.must_be(number, judged, note);
     }
     calls
         .tally
-        .count("lengths with both sides of the limits", 1);
+        .count("lengths with both sides of the right sizes", 1);
 }
 
 /// Refusal 2 at the thousand lengths above 8,127, and at those out of range
-/// that the length might be taken for: all else is right for this length.
+/// that the length might be taken for: all else is right for this length, and the
+/// limit is any.
 pub fn lengths_above(calls: &mut Calls, ground: &Ground) {
     let record = calls.random.record(ground.bits());
     let claim = Claim::of(&record);
     for length in (LONGEST + 1..=LONGEST + 1_000).chain(lengths_out(ground.bits())) {
-        length_above(calls, ground, length, record.bytes(), &claim);
+        let limit = limits::any(&mut calls.random);
+        length_above(calls, ground, limit, length, record.bytes(), &claim);
     }
     // At 8,128 once more with the sizes that it would have, with 17 blocks, so
     // that nothing but the length is wrong before the rows.
     let mut longer = claim;
     longer.assignment.resize(8 * (513 + 22_528 * 17), 0);
-    length_above(calls, ground, LONGEST + 1, &[0; 1016], &longer);
+    length_above(calls, ground, SIXTEEN, LONGEST + 1, &[0; 1016], &longer);
 }
 
-fn length_above(calls: &mut Calls, ground: &Ground, length: u64, record: &[u8], claim: &Claim) {
-    let note = "a length above 8,127";
-    let judged = calls.check(&ground.table, length, &claim.digest, &claim.assignment, "");
+fn length_above(
+    calls: &mut Calls,
+    ground: &Ground,
+    limit: u64,
+    length: u64,
+    record: &[u8],
+    claim: &Claim,
+) {
+    let (table, note) = (&ground.table, "a length above 8,127");
+    let (digest, assignment) = (&claim.digest, &claim.assignment);
+    let judged = calls.check(table, limit, length, digest, assignment, note);
     calls.must_be(Refusal::Length.number(), judged, note);
-    calls.row(&ground.table, length, 0, ROW_BYTES);
+    let judged = calls.row(table, limit, length, 0, ROW_BYTES);
+    calls.must_be(Refusal::Length.number(), judged, note);
     let sizes = [DIGEST_BYTES, claim.assignment.len()];
-    records::both(calls, length, record, sizes, 2, note);
+    records::both(calls, limit, length, record, sizes, 2, note);
     if length < 10_000 {
         let record = vec![0; length.div_ceil(8) as usize];
-        records::both(calls, length, &record, sizes, 2, note);
+        records::both(calls, limit, length, &record, sizes, 2, note);
     }
 }
 

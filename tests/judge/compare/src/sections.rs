@@ -11,6 +11,7 @@ use crate::calls::Calls;
 use crate::claim::{Claim, Ground};
 use crate::damage::{NO_BITS, WAYS};
 use crate::forge::forge;
+use crate::limits::{self, SIXTEEN};
 use crate::prime::{self, FROM_PRIME};
 
 /// Rows before block 0 and rows of a block.
@@ -29,29 +30,50 @@ pub fn record(calls: &mut Calls, bits: u64) -> Record {
     Record::front(bits, &same).expect("a length in range")
 }
 
+/// Limits for a call, each with the refusal by which it must be refused, 0 for none:
+/// one that allows the length, and once in sixteen times another that does not.
+pub fn some_limits(calls: &mut Calls, length: Length) -> Vec<(u64, u8)> {
+    let (blocks, random) = (length.blocks(), &mut calls.random);
+    let mut limits = vec![(limits::allowing(blocks, random), 0)];
+    if random.one_in(16) {
+        limits.push(limits::refusing(blocks, random));
+        calls
+            .tally
+            .count("calls under a drawn limit that refuses", 1);
+    }
+    limits
+}
+
 /// The exact size or a longer one.
 pub fn enough(calls: &mut Calls, bytes: usize) -> usize {
     let more = calls.random.range(1, 100);
     calls.random.pick(&[bytes, bytes + more])
 }
 
+/// Digests of random records under limits that allow them, and now and then under
+/// one that does not.
 pub fn digests(calls: &mut Calls, bits: u64, count: usize) {
     for _ in 0..count {
         let record = record(calls, bits);
         let out_len = enough(calls, DIGEST_BYTES);
-        let judged = calls.digest(bits, record.bytes(), out_len, "a record");
-        calls.must_be(0, judged, "a record's digest");
+        for (limit, must) in some_limits(calls, record.length()) {
+            let judged = calls.digest(limit, bits, record.bytes(), out_len, "a record");
+            calls.must_be(must, judged, "a record's digest");
+        }
     }
     calls.tally.count("lengths with digests", 1);
 }
 
+/// Assignments in the same way.
 pub fn produced(calls: &mut Calls, bits: u64, count: usize) {
     let exact = Length::new(bits).map_or(0, Length::assignment_bytes);
     for _ in 0..count {
         let record = record(calls, bits);
         let out_len = enough(calls, exact);
-        let judged = calls.produce(bits, record.bytes(), out_len, "a record");
-        calls.must_be(0, judged, "a record's assignment");
+        for (limit, must) in some_limits(calls, record.length()) {
+            let judged = calls.produce(limit, bits, record.bytes(), out_len, "a record");
+            calls.must_be(must, judged, "a record's assignment");
+        }
     }
     calls.tally.count("lengths with produced assignments", 1);
 }
@@ -60,7 +82,8 @@ pub fn produced(calls: &mut Calls, bits: u64, count: usize) {
 pub fn whole_table(calls: &mut Calls, ground: &Ground) {
     for row in 0..ground.length.rows() as u64 {
         let out_len = enough(calls, ROW_BYTES);
-        calls.row(&ground.table, ground.bits(), row, out_len);
+        let judged = calls.row(&ground.table, SIXTEEN, ground.bits(), row, out_len);
+        calls.must_be(0, judged, "a row of the table");
     }
     calls.tally.count("whole tables of rows", 1);
 }
@@ -96,7 +119,8 @@ pub fn block_bit_claims(calls: &mut Calls, bits: u64, count: usize) {
         let known = Err(Refusal::Unsatisfied(RowNumber(row as u32)));
         claim.set(wire, value);
         let note = format!("wire {wire} set to {value}");
-        calls.check_known(known, bits, &claim.digest, &claim.assignment, &note);
+        let (digest, assignment) = (&claim.digest, &claim.assignment);
+        calls.check_known(known, SIXTEEN, bits, digest, assignment, &note);
         claim.set(wire, right);
     }
     calls.tally.count("lengths with block bits changed", 1);
@@ -113,22 +137,31 @@ pub fn sampled_rows(calls: &mut Calls, ground: &Ground, count: usize) {
     numbers.extend((0..count).map(|_| calls.random.below(all as usize) as u64));
     for row in numbers {
         let out_len = enough(calls, ROW_BYTES);
-        calls.row(&ground.table, ground.bits(), row, out_len);
+        for (limit, must) in some_limits(calls, ground.length) {
+            let judged = calls.row(&ground.table, limit, ground.bits(), row, out_len);
+            calls.must_be(must, judged, "a row");
+        }
     }
     calls.tally.count("lengths with sampled rows", 1);
 }
 
+/// A claim, right or damaged, under a limit that allows it, and now and then under
+/// one that does not.
 pub fn check(calls: &mut Calls, ground: &Ground, claim: &Claim) {
-    let (digest, assignment) = (&claim.digest, &claim.assignment);
-    let judged = calls.check(
-        &ground.table,
-        ground.bits(),
+    let Claim {
         digest,
         assignment,
-        &claim.note,
-    );
-    if judged.is_ok() {
-        calls.tally.count("claims accepted", 1);
+        note,
+    } = claim;
+    for (limit, refusal) in some_limits(calls, ground.length) {
+        let bits = ground.bits();
+        let judged = calls.check(&ground.table, limit, bits, digest, assignment, note);
+        if judged.is_ok() {
+            calls.tally.count("claims accepted", 1);
+        }
+        if refusal != 0 {
+            calls.must_be(refusal, judged, note);
+        }
     }
 }
 

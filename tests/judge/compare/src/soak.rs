@@ -7,7 +7,7 @@ use std::time::{Duration, Instant};
 
 use host::Empty;
 use judge::check::check_with;
-use judge::length::LONGEST;
+use judge::length::{Length, LONGEST};
 use judge::operations::{self, DIGEST_BYTES, ROW_BYTES};
 use judge::packing;
 use judge::record::spare_bits;
@@ -16,6 +16,7 @@ use crate::answers::{self, told};
 use crate::axles::soak::Bands;
 use crate::claim::{Claim, Ground};
 use crate::damage::WAYS;
+use crate::limits::{self, SIXTEEN};
 use crate::passage::soak::Passages;
 use crate::random::Random;
 
@@ -99,13 +100,23 @@ fn checked(ground: &Ground, claim: Claim) -> Checked {
         &claim.digest,
     );
     let mut packed = vec![OLD; ground.length.packed_bytes()];
-    let pack_judged = packing::pack(ground.bits(), &claim.assignment, &mut packed);
+    let pack_judged = packing::pack(SIXTEEN, ground.bits(), &claim.assignment, &mut packed);
     Checked {
         length: ground.bits(),
         claim,
         answer: answers::plain(judged),
         pack_answer: answers::plain(pack_judged),
         packed,
+    }
+}
+
+/// A limit for a call of that length, which is in range, with the refusal: mostly
+/// one that allows it, and 0.
+fn some_limit(bits: u64, random: &mut Random) -> (u64, u8) {
+    let blocks = Length::new(bits).map_or(0, Length::blocks);
+    match random.one_in(16) {
+        true => limits::refusing(blocks, random),
+        false => (limits::allowing(blocks, random), 0),
     }
 }
 
@@ -158,13 +169,31 @@ impl Pool {
         steady(name, must, answer, bytes, &self.buffer[..bytes.len()])
     }
 
+    /// The same under a limit by which the call is refused, or 0.
+    fn told_under(
+        &self,
+        refusal: u8,
+        name: &str,
+        must: u64,
+        answer: u64,
+        bytes: &[u8],
+    ) -> Result<(), String> {
+        if refusal == 0 {
+            return self.told(name, must, answer, bytes);
+        }
+        let old = &[OLD; ROW_BYTES][..bytes.len().min(ROW_BYTES)];
+        let name = format!("{name} under a limit that refuses it");
+        self.told(&name, u64::from(refusal), answer, old)
+    }
+
     fn digest(&mut self, random: &mut Random) -> Result<(), String> {
         let record = random.below(self.records.len());
         self.buffer(DIGEST_BYTES);
         let of = &self.records[record];
         let out = &mut self.buffer[..DIGEST_BYTES];
-        let answer = host::digest(Empty::Null, of.bits, &of.bytes, out);
-        self.told("digest", 0, answer, &of.claim.digest)
+        let (limit, refusal) = some_limit(of.bits, random);
+        let answer = host::digest(Empty::Null, limit, of.bits, &of.bytes, out);
+        self.told_under(refusal, "digest", 0, answer, &of.claim.digest)
     }
 
     fn row(&mut self, random: &mut Random) -> Result<(), String> {
@@ -172,8 +201,9 @@ impl Pool {
         self.buffer(ROW_BYTES);
         let listed = &self.rows[number];
         let out = &mut self.buffer[..ROW_BYTES];
-        let answer = host::row(Empty::Null, listed.length, listed.row, out);
-        self.told("row", listed.answer, answer, &listed.bytes)
+        let (limit, refusal) = some_limit(listed.length, random);
+        let answer = host::row(Empty::Null, limit, listed.length, listed.row, out);
+        self.told_under(refusal, "row", listed.answer, answer, &listed.bytes)
     }
 
     fn produce(&mut self, random: &mut Random) -> Result<(), String> {
@@ -182,20 +212,24 @@ impl Pool {
         self.buffer(len);
         let of = &self.records[record];
         let out = &mut self.buffer[..len];
-        let answer = host::produce(Empty::Null, of.bits, &of.bytes, out);
-        self.told("produce", 0, answer, &of.claim.assignment)
+        let (limit, refusal) = some_limit(of.bits, random);
+        let answer = host::produce(Empty::Null, limit, of.bits, &of.bytes, out);
+        self.told_under(refusal, "produce", 0, answer, &of.claim.assignment)
     }
 
     fn check(&mut self, random: &mut Random) -> Result<(), String> {
         let number = random.below(self.checks.len());
         let Checked {
             length,
-            claim,
+            claim: Claim {
+                digest, assignment, ..
+            },
             answer: must,
             ..
         } = &self.checks[number];
-        let answer = host::check(Empty::Null, *length, &claim.digest, &claim.assignment);
-        self.told("check", *must, answer, &[])
+        let (limit, refusal) = some_limit(*length, random);
+        let answer = host::check(Empty::Null, limit, *length, digest, assignment);
+        self.told_under(refusal, "check", *must, answer, &[])
     }
 
     fn pack(&mut self, random: &mut Random) -> Result<(), String> {
@@ -204,8 +238,9 @@ impl Pool {
         self.buffer(len);
         let of = &self.checks[number];
         let out = &mut self.buffer[..len];
-        let answer = host::pack(Empty::Null, of.length, &of.claim.assignment, out);
-        self.told("pack", of.pack_answer, answer, &of.packed)
+        let (limit, refusal) = some_limit(of.length, random);
+        let answer = host::pack(Empty::Null, limit, of.length, &of.claim.assignment, out);
+        self.told_under(refusal, "pack", of.pack_answer, answer, &of.packed)
     }
 
     /// Packed bytes as they are, and with a spare bit set.
@@ -216,18 +251,20 @@ impl Pool {
         let record = &mut self.records[number];
         let (length, last) = (record.bits, record.packed.len() - 1);
         let out = &mut self.buffer[..len];
+        let (limit, refusal) = some_limit(length, random);
         if random.one_in(4) {
             record.packed[last] ^= 1;
-            let answer = host::unpack(Empty::Null, length, &record.packed, out);
+            let answer = host::unpack(Empty::Null, limit, length, &record.packed, out);
             record.packed[last] ^= 1;
-            return self.told("unpack", 12, answer, &[OLD; ROW_BYTES]);
+            return self.told_under(refusal, "unpack", 12, answer, &[OLD; ROW_BYTES]);
         }
-        let answer = host::unpack(Empty::Null, length, &record.packed, out);
+        let answer = host::unpack(Empty::Null, limit, length, &record.packed, out);
         let Record { claim, .. } = &self.records[number];
-        self.told("unpack", 0, answer, &claim.assignment)
+        self.told_under(refusal, "unpack", 0, answer, &claim.assignment)
     }
 
-    /// A record with a spare bit set, to digest or to produce.
+    /// A record with a spare bit set, to digest or to produce: 14 under every limit
+    /// from 1 to 16, also where 22 would follow.
     fn spare_bit(&mut self, random: &mut Random) -> Result<(), String> {
         self.buffer(ROW_BYTES);
         let with_spare: Vec<&Record> = self.records.iter().filter(|of| of.bits % 8 != 0).collect();
@@ -235,7 +272,8 @@ impl Pool {
         let mut bytes = of.bytes.clone();
         bytes[of.bits as usize / 8] |= spare_bits(of.bits);
         let call = random.pick(&[host::digest, host::produce]);
-        let answer = call(Empty::Null, of.bits, &bytes, &mut self.buffer);
+        let limit = random.range(1, 17) as u64;
+        let answer = call(Empty::Null, limit, of.bits, &bytes, &mut self.buffer);
         self.told("a record with spare bits", 14, answer, &[OLD; ROW_BYTES])
     }
 
@@ -251,21 +289,26 @@ impl Pool {
         } = &self.records[record];
         let (length, none) = (*bits, Empty::Null);
         if random.one_in(9) {
-            let answer = host::unpack(none, length, bytes, &mut self.buffer);
+            let answer = host::unpack(none, SIXTEEN, length, bytes, &mut self.buffer);
             return self.told("a refused unpack", 11, answer, &[OLD; ROW_BYTES]);
         }
         let short = &mut self.buffer[..DIGEST_BYTES - 1];
+        // Under any limit from 1 to 16 the length out of range is 2 and the wrong size
+        // of a record 13; what comes after 22 is asked under one that allows it.
+        let any = random.range(1, 17) as u64;
+        let blocks = Length::new(length).map_or(0, Length::blocks);
+        let limit = limits::allowing(blocks, random);
         let (must, answer) = match random.below(10) {
-            0 => (4, host::digest(none, length, bytes, short)),
-            1 => (2, host::produce(none, LONGEST + 1, bytes, short)),
-            2 => (4, host::row(none, length, 0, short)),
-            3 => (3, host::row(none, length, u64::MAX, short)),
-            4 => (4, host::pack(none, length, &claim.assignment, short)),
-            5 => (4, host::unpack(none, length, packed, short)),
-            6 => (5, host::check(none, length, &[], &claim.assignment)),
-            7 => (13, host::digest(none, length, packed, short)),
-            8 => (13, host::produce(none, length, packed, short)),
-            _ => (6, host::check(none, length, &claim.digest, bytes)),
+            0 => (4, host::digest(none, limit, length, bytes, short)),
+            1 => (2, host::produce(none, any, LONGEST + 1, bytes, short)),
+            2 => (4, host::row(none, limit, length, 0, short)),
+            3 => (3, host::row(none, limit, length, u64::MAX, short)),
+            4 => (4, host::pack(none, limit, length, &claim.assignment, short)),
+            5 => (4, host::unpack(none, limit, length, packed, short)),
+            6 => (5, host::check(none, limit, length, &[], &claim.assignment)),
+            7 => (13, host::digest(none, any, length, packed, short)),
+            8 => (13, host::produce(none, any, length, packed, short)),
+            _ => (6, host::check(none, limit, length, &claim.digest, bytes)),
         };
         self.told("a refused call", must, answer, &[OLD; ROW_BYTES])
     }

@@ -39,7 +39,7 @@ const ROWS: Table = Table {
         (Operation::Pack, "pack"),
         (Operation::Unpack, "unpack"),
     ],
-    refusals: &[0, 2, 3, 4, 5, 6, 20, 7, 8, 9, 10, 11, 12, 13, 14],
+    refusals: &[0, 21, 2, 13, 14, 22, 3, 4, 5, 6, 20, 10, 11, 12, 7, 8, 9],
 };
 
 const PASSAGES: Table = Table {
@@ -68,7 +68,7 @@ const APPENDED: u32 = 65_152;
 #[derive(Default)]
 pub struct Tally {
     /// Calls by operation and by the judge's refusal, 0 for none.
-    calls: [[u64; 21]; 13],
+    calls: [[u64; 23]; 13],
     /// Other things counted, by their name.
     counts: BTreeMap<&'static str, u64>,
     /// Rows seen as the failing one: the record's bits and the row number.

@@ -12,14 +12,16 @@ use std::ptr;
 mod c {
     extern "C" {
         pub fn sm3rows_digest(
+            limit: u64,
             bits: u64,
             record: *const u8,
             record_len: usize,
             out: *mut u8,
             out_len: usize,
         ) -> u64;
-        pub fn sm3rows_row(bits: u64, row: u64, out: *mut u8, out_len: usize) -> u64;
+        pub fn sm3rows_row(limit: u64, bits: u64, row: u64, out: *mut u8, out_len: usize) -> u64;
         pub fn sm3rows_produce(
+            limit: u64,
             bits: u64,
             record: *const u8,
             record_len: usize,
@@ -27,6 +29,7 @@ mod c {
             out_len: usize,
         ) -> u64;
         pub fn sm3rows_check(
+            limit: u64,
             bits: u64,
             digest: *const u8,
             digest_len: usize,
@@ -34,6 +37,7 @@ mod c {
             assignment_len: usize,
         ) -> u64;
         pub fn sm3rows_pack(
+            limit: u64,
             bits: u64,
             assignment: *const u8,
             assignment_len: usize,
@@ -41,6 +45,7 @@ mod c {
             out_len: usize,
         ) -> u64;
         pub fn sm3rows_unpack(
+            limit: u64,
             bits: u64,
             packed: *const u8,
             packed_len: usize,
@@ -77,33 +82,33 @@ impl Empty {
 // Each call, those of `axles` and `passage` too, lends slices that live through it, and none
 // overlaps one that is written, which the borrows of the arguments see to.
 
-pub fn digest(empty: Empty, bits: u64, record: &[u8], out: &mut [u8]) -> u64 {
+pub fn digest(empty: Empty, limit: u64, bits: u64, record: &[u8], out: &mut [u8]) -> u64 {
     let (from, to) = (empty.of(record), empty.of_mut(out));
-    unsafe { c::sm3rows_digest(bits, from, record.len(), to, out.len()) }
+    unsafe { c::sm3rows_digest(limit, bits, from, record.len(), to, out.len()) }
 }
 
-pub fn row(empty: Empty, bits: u64, row: u64, out: &mut [u8]) -> u64 {
-    unsafe { c::sm3rows_row(bits, row, empty.of_mut(out), out.len()) }
+pub fn row(empty: Empty, limit: u64, bits: u64, row: u64, out: &mut [u8]) -> u64 {
+    unsafe { c::sm3rows_row(limit, bits, row, empty.of_mut(out), out.len()) }
 }
 
-pub fn produce(empty: Empty, bits: u64, record: &[u8], out: &mut [u8]) -> u64 {
+pub fn produce(empty: Empty, limit: u64, bits: u64, record: &[u8], out: &mut [u8]) -> u64 {
     let (from, to) = (empty.of(record), empty.of_mut(out));
-    unsafe { c::sm3rows_produce(bits, from, record.len(), to, out.len()) }
+    unsafe { c::sm3rows_produce(limit, bits, from, record.len(), to, out.len()) }
 }
 
-pub fn check(empty: Empty, bits: u64, digest: &[u8], assignment: &[u8]) -> u64 {
+pub fn check(empty: Empty, limit: u64, bits: u64, digest: &[u8], assignment: &[u8]) -> u64 {
     let (held, read) = (empty.of(digest), empty.of(assignment));
-    unsafe { c::sm3rows_check(bits, held, digest.len(), read, assignment.len()) }
+    unsafe { c::sm3rows_check(limit, bits, held, digest.len(), read, assignment.len()) }
 }
 
-pub fn pack(empty: Empty, bits: u64, assignment: &[u8], out: &mut [u8]) -> u64 {
+pub fn pack(empty: Empty, limit: u64, bits: u64, assignment: &[u8], out: &mut [u8]) -> u64 {
     let (from, to) = (empty.of(assignment), empty.of_mut(out));
-    unsafe { c::sm3rows_pack(bits, from, assignment.len(), to, out.len()) }
+    unsafe { c::sm3rows_pack(limit, bits, from, assignment.len(), to, out.len()) }
 }
 
-pub fn unpack(empty: Empty, bits: u64, packed: &[u8], out: &mut [u8]) -> u64 {
+pub fn unpack(empty: Empty, limit: u64, bits: u64, packed: &[u8], out: &mut [u8]) -> u64 {
     let (from, to) = (empty.of(packed), empty.of_mut(out));
-    unsafe { c::sm3rows_unpack(bits, from, packed.len(), to, out.len()) }
+    unsafe { c::sm3rows_unpack(limit, bits, from, packed.len(), to, out.len()) }
 }
 
 /// Gives memory that was freed back to the system, so that memory taken

@@ -1,7 +1,8 @@
 //! Which records meet the bounds. "The record need not be a passage line": only
 //! its two digits are asked for.
 
-use super::{Bounds, DIGITS, RECORD_BYTES};
+use super::{length, Bounds, DIGITS, RECORD_BYTES};
+use crate::limit::{self, TWO};
 use crate::record::Record;
 use crate::refusal::Refusal;
 
@@ -47,7 +48,7 @@ impl Billed {
         let axles = Axles::of(record).filter(within);
         Ok(Billed {
             bounds,
-            record: Record::whole(record)?,
+            record: limit::record(TWO, length().bits() as u64, record)?,
             axles: axles.ok_or(Refusal::OutsideBand)?,
         })
     }

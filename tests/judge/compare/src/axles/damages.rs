@@ -21,6 +21,7 @@ use crate::claim::{Claim, Ground};
 use crate::damage::{NO_BITS, WAYS};
 use crate::forge::forge;
 use crate::kinds;
+use crate::limits::TWO;
 use crate::prime::{self, FROM_PRIME};
 use crate::random::Random;
 
@@ -173,9 +174,10 @@ pub fn plain_records(calls: &mut Calls, ground: &Ground, count: usize) {
         let Claim {
             digest, assignment, ..
         } = &right;
-        let judged = calls.check(table, LINE_BITS, digest, assignment, "an axle claim");
+        let judged = calls.check(table, TWO, LINE_BITS, digest, assignment, "an axle claim");
         calls.must_be(6, judged, "an axle claim to the record's check");
-        let judged = calls.check(table, LINE_BITS, digest, &claim.assignment, "cut off");
+        let assignment = &claim.assignment;
+        let judged = calls.check(table, TWO, LINE_BITS, digest, assignment, "cut off");
         calls.must_be(0, judged, "an axle claim cut off");
         let random = calls.random.bytes(all - 8 * WIRES);
         let field = (WIRES..right.wires()).flat_map(|_| calls.random.field().to_le_bytes());

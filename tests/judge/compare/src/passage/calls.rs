@@ -12,6 +12,7 @@ use super::fields::{Fields, BLIND_BYTES, PLATE_BYTES};
 use crate::answers;
 use crate::calls::Calls;
 use crate::lent::Lent;
+use crate::limits::TWO;
 use crate::random::Random;
 use crate::tally::Operation;
 
@@ -213,7 +214,8 @@ impl Calls {
         );
     }
 
-    /// The check of a claim by both libraries, with an answer that is known.
+    /// The check of a claim by both libraries, with an answer that is known: the row
+    /// library's under two blocks.
     pub fn passage_check(
         &mut self,
         known: Result<(), Refusal>,
@@ -230,7 +232,7 @@ impl Calls {
         self.answers(operation, answers::plain(known), answer, note);
         self.memory(operation, "digest", &held_before, &held, note);
         self.memory(operation, "assignment", &read_before, &read, note);
-        self.check_known(known, LINE_BITS, digest, assignment, note);
+        self.check_known(known, TWO, LINE_BITS, digest, assignment, note);
     }
 
     /// The check of an assignment against 32 of its own bytes, with an answer
