@@ -10,7 +10,7 @@ use Rattle.circuit.specs.declared.given_row.RowAnswer.the-variants as row
 use Rattle.limits.proofs.limit.Decided.{within-limit}
 use Rattle.limits.proofs.limit.Tests.{length-passes}
 use Rattle.limits.specs.Blocks.{blocks}
-use Rattle.limits.specs.Handed.{recordBytesAnswer, handedAnswer}
+use Rattle.limits.specs.Handed.{handedAnswer, recordBytesAnswer}
 use Rattle.limits.specs.Limit.{Allows, allowance, limited, partnerLimit}
 
 pub partner-allows : Allows partnerLimit axleBits

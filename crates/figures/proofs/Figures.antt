@@ -4,7 +4,7 @@ use mathlib.Core.Path.{_≡_, refl}
 use Rattle.assignment.specs.Assignment.{entry}
 use Rattle.assignment.specs.BelowPrime.{limitAnswer}
 use Rattle.limits.specs.Blocks.{blocks}
-use Rattle.limits.specs.Handed.{recordBytesAnswer, handedAnswer}
+use Rattle.limits.specs.Handed.{handedAnswer, recordBytesAnswer}
 use Rattle.limits.specs.Limit.{allowance, lengthAnswer}
 use Rattle.record.specs.Check.{checkAnswer}
 use Rattle.circuit.specs.Wires.{wireCount}

@@ -12,12 +12,13 @@ use borrow.Author.Tests.{eq-eqb, le-ltb, lt-ltb}
 use lib.Dec.{eqb, ltb}
 use Rattle.limits.proofs.limit.Decided.{allowed-range, beyond-limit, limit-cases, ours-enough, outside-limit, too-long, within-limit}
 use Rattle.limits.specs.Blocks.{blocks, mostBits}
-use Rattle.limits.specs.Limit.{Allows, IsLimit, allowance, limited, ourLimit}
+use Rattle.limits.specs.Limit.{Allows, IsLimit, allowance, lengthAnswer, limited, ourLimit}
 use Rattle.limits.specs.Limited.{Limited, OursStand}
 use Rattle.limits.specs.declared.limit.Allowance.{Allowance}
 use Rattle.refusal.proofs.Small.{tested}
 use Rattle.refusal.specs.Refusals.{outcomeNumber, refusalNumber}
 use Rattle.refusal.specs.declared.outcome.Outcome.the-variants.{Done, Refused}
+use Rattle.refusal.specs.declared.outcome.Outcome.{Outcome}
 use Rattle.refusal.specs.declared.outcome.Refusal.the-variants.{BlocksAboveLimit, BufferTooShort, LengthOutOfRange, LimitOutOfRange}
 use Rattle.refusal.specs.declared.outcome.Refusal.{Refusal}
 
@@ -63,6 +64,10 @@ ours-stand A refused asked n next =
     (λ fits.
     let range : n ≤ mostBits = omega (arith, fits) in
     ap (λ t. limited refused asked t next) (within-limit ourLimit n (ours-allow n range)) ∙ rw (le-ltb mostBits n range))
+
+pub ours-length : (n : ℕ) (next : Outcome) → lengthAnswer ourLimit n next ≡ cond (ltb mostBits n) (Refused LengthOutOfRange) next
+unfolding lengthAnswer
+ours-length n next = ours-stand Outcome Refused (λ answer. answer) n next
 
 -- Of an operation whose answers have these numbers, that asks so, and that else answers `next` and leaves `leaves` of its answer.
 module _ {A : Type 0} (refused : Refusal → A) (number : A → ℕ) (named : (r : Refusal) → number (refused r) ≡ refusalNumber r)

@@ -2,7 +2,7 @@
 ghost use mathlib.Core.Path.{_≡_};
 ghost use Prim.Native.Nat.{_≤_};
 ghost use Rattle.limits.specs.Blocks.{mostBits};
-ghost use Rattle.limits.specs.Handed.{recordBytesAnswer, handedAnswer};
+ghost use Rattle.limits.specs.Handed.{handedAnswer, recordBytesAnswer};
 ghost use Rattle.refusal.specs.declared.outcome.Outcome.the-variants.{Done};
 use crate::limit::Allowance;
 use crate::limit::decide;

@@ -1,6 +1,6 @@
 -- The answers of packing, unpacking and the check of packed bytes, test by test. They are done past all their tests, each of which is a
 -- condition that holds; and unpacking refuses what the check of packed bytes refuses before document 01's check.
-use mathlib.Core.Bool.{cond, not}
+use mathlib.Core.Bool.{not}
 use mathlib.Core.List.{List}
 use mathlib.Core.Logic.{_↔_, Iff·rfl, by-cases}
 use mathlib.Core.Path.{_≡_, _∙_, ap, refl, sym}
@@ -18,10 +18,10 @@ use Rattle.circuit.specs.Wires.{wireCount}
 use Rattle.circuit.specs.declared.circuits.Circuit.the-variants.{Record}
 use Rattle.encoding.proofs.PackedBits.{length-packed}
 use Rattle.encoding.specs.Packed.{packedBytes, packedLength, spareBits}
-use Rattle.limits.proofs.Limited.{Other, other-number, ours-stand}
+use Rattle.limits.proofs.Limited.{Other, other-number, ours-length}
 use Rattle.limits.proofs.limit.Tests.{length-passes, past-length}
 use Rattle.limits.specs.Blocks.{mostBits}
-use Rattle.limits.specs.Limit.{Allows, lengthAnswer, ourLimit}
+use Rattle.limits.specs.Limit.{Allows, ourLimit}
 use Rattle.packing.proofs.pack.EntriesAsked.{asked-done}
 use Rattle.packing.specs.Pack.{packAnswer, packAsked, packLeft}
 use Rattle.packing.specs.Packed.{unpackedBytes}
@@ -122,24 +122,19 @@ module _ (n : ℕ) where
   unfolding packedCheckAnswer
   check-done d p = past-length ourLimit n _ Done done-other (packed-done ourWires p _)
 
-  -- with our limit the length's own refusal is 2 alone
-  ours : (next : Outcome) → lengthAnswer ourLimit n next ≡ cond (ltb mostBits n) (Refused LengthOutOfRange) next
-  unfolding lengthAnswer
-  ours next = ours-stand Outcome Refused (λ answer. answer) n next
-
   -- The check of packed bytes by way of unpacking them into a buffer that is long enough.
   module _ (d p : List ℕ) (room : ℕ) (fits : n ≤ mostBits → 8 * ourWires ≤ room) where
     -- a refusal of unpacking is the answer
     pub check-refused : (r : Refusal) → unpackAnswer ourLimit n p room ≡ Refused r → packedCheckAnswer n d p ≡ Refused r
     unfolding unpackAnswer packedCheckAnswer
     check-refused r e =
-        ours _
-        ∙ by-cases (decLt mostBits n) (λ above. simp (lt-ltb mostBits n above) (simp (lt-ltb mostBits n above) at (sym (ours _) ∙ e)))
+        ours-length n _
+        ∙ by-cases (decLt mostBits n) (λ above. simp (lt-ltb mostBits n above) (simp (lt-ltb mostBits n above) at (sym (ours-length n _) ∙ e)))
         (λ within.
         let range : n ≤ mostBits = omega arith in
         simp (le-ltb mostBits n range)
         (asked-first ourWires p .stands r _
-        (simp (le-ltb mostBits n range, le-ltb room (8 * ourWires) (fits range)) at (sym (ours _) ∙ e))))
+        (simp (le-ltb mostBits n range, le-ltb room (8 * ourWires) (fits range)) at (sym (ours-length n _) ∙ e))))
 
     -- else it is that of document 01's check
     pub check-unpacked : unpackAnswer ourLimit n p room ≡ Done → packedCheckAnswer n d p ≡ checkAnswer ourLimit n d (unpackedBytes ourWires p)
@@ -152,9 +147,9 @@ module _ (n : ℕ) where
   pub check-length : (d p : List ℕ) → n ≤ mostBits → (length p ≡ packedLength ourWires → ⊥)
       → packedCheckAnswer n d p ≡ Refused WrongPackedLength
   unfolding packedCheckAnswer packedAnswer
-  check-length d p range wrong = ours _ ∙ simp (le-ltb mostBits n range, ne-eqb _ _ wrong)
+  check-length d p range wrong = ours-length n _ ∙ simp (le-ltb mostBits n range, ne-eqb _ _ wrong)
 
   -- .. but for a length of records that is out of range
   pub check-range : (d p : List ℕ) → mostBits < n → packedCheckAnswer n d p ≡ Refused LengthOutOfRange
   unfolding packedCheckAnswer
-  check-range d p above = ours _ ∙ simp (lt-ltb mostBits n above)
+  check-range d p above = ours-length n _ ∙ simp (lt-ltb mostBits n above)

@@ -12,7 +12,7 @@ use Rattle.encoding.specs.Bits.{number}
 use Rattle.encoding.specs.Bytes.{Bytes}
 use Rattle.encoding.specs.Packed.{spareBits}
 use Rattle.limits.specs.Blocks.{blocks}
-use Rattle.limits.specs.Handed.{IsRecord, recordBytesAnswer, handedAnswer}
+use Rattle.limits.specs.Handed.{IsRecord, handedAnswer, recordBytesAnswer}
 use Rattle.limits.specs.Limit.{Allows, allowance, partnerLimit}
 use Rattle.passage.specs.Format.{lineLength}
 use Rattle.passage.specs.Read.{lineAnswer}

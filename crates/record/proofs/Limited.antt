@@ -13,7 +13,7 @@ use Rattle.circuit.specs.declared.circuits.Circuit.{Circuit}
 use Rattle.circuit.specs.declared.given_row.RowAnswer.the-variants as row
 use Rattle.limits.proofs.Limited.{Other, asks-nothing, limited-operation, other-number, room-other}
 use Rattle.limits.proofs.handed.Asked.{asks-bytes}
-use Rattle.limits.specs.Handed.{recordBytesAnswer, handedAnswer}
+use Rattle.limits.specs.Handed.{handedAnswer, recordBytesAnswer}
 use Rattle.limits.specs.Limit.{lengthAnswer}
 use Rattle.record.specs.Check.{checkAnswer}
 use Rattle.record.specs.Limited.{RecordLimited}

@@ -2,15 +2,12 @@
 -- coefficients.
 use mathlib.Core.Path.{_∙_, fun-ext}
 use Rattle.circuit.specs.declared.circuits.Circuit.the-variants.{Record}
-use Rattle.limits.proofs.Limited.{ours-stand}
-use Rattle.limits.specs.Limit.{lengthAnswer}
+use Rattle.limits.proofs.Limited.{ours-length}
 use Rattle.record.specs.Check.{checkAnswer}
 use Rattle.record.specs.Former.{AnswerUnaltered, formerAnswer}
-use Rattle.refusal.specs.declared.outcome.Outcome.the-variants.{Refused}
-use Rattle.refusal.specs.declared.outcome.Outcome.{Outcome}
 use Rattle.satisfaction.proofs.Unaltered.{same-answer}
 
 pub answer-unaltered : AnswerUnaltered
-unfolding checkAnswer formerAnswer lengthAnswer
+unfolding checkAnswer formerAnswer
 answer-unaltered =
-    fun-ext (λ n. fun-ext (λ d. fun-ext (λ a. ours-stand Outcome Refused (λ answer. answer) n _ ∙ rw (same-answer (Record n) d a))))
+    fun-ext (λ n. fun-ext (λ d. fun-ext (λ a. ours-length n _ ∙ rw (same-answer (Record n) d a))))

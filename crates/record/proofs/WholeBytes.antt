@@ -11,14 +11,12 @@ use Rattle.circuit.specs.GivenRow.{givenRow}
 use Rattle.circuit.specs.Wires.{frameWires}
 use Rattle.circuit.specs.declared.given_row.RowAnswer.the-variants as row
 use Rattle.circuit.specs.declared.given_row.RowAnswer.{RowAnswer}
-use Rattle.limits.proofs.Limited.{ours-stand}
-use Rattle.limits.specs.Limit.{lengthAnswer}
+use Rattle.limits.proofs.Limited.{ours-length, ours-stand}
 use Rattle.record.specs.Check.{checkAnswer}
 use Rattle.record.specs.Layout.{messageWires, wireOf}
 use Rattle.record.specs.RowAnswer.{rowAnswer}
 use Rattle.record.specs.WholeBytes.{WholeBytes}
 use Rattle.refusal.specs.declared.outcome.Outcome.the-variants.{Done, Refused}
-use Rattle.refusal.specs.declared.outcome.Outcome.{Outcome}
 use Rattle.refusal.specs.declared.outcome.Refusal.the-variants.{BufferTooShort, LengthOutOfRange}
 use Rattle.satisfaction.specs.Check.{circuitCheck}
 use Rattle.sm3.proofs.WholeBytes.{padded-message, whole-bytes, whole-handed}
@@ -26,7 +24,7 @@ use Rattle.sm3.specs.Message.{chainingValue, digestOf}
 use Rattle.sm3.specs.WholeBytes.{mostBytes}
 
 pub record-whole-bytes : WholeBytes
-unfolding wireOf digestOf rowAnswer givenRow checkAnswer lengthAnswer circuitCheck
+unfolding wireOf digestOf rowAnswer givenRow checkAnswer circuitCheck
 record-whole-bytes =
     record {
       wires =
@@ -42,6 +40,6 @@ record-whole-bytes =
           (circuit.whole-bytes .wire-count (length r));
       check =
           λ L d a.
-          ours-stand Outcome Refused (λ answer. answer) (8 * L) _
+          ours-length (8 * L) _
           ∙ rw (whole-bytes .range L, circuit.whole-bytes .wire-count L, circuit.whole-bytes .row-count L);
     }

@@ -22,7 +22,7 @@ use Rattle.encoding.specs.Packed.{packedLength}
 use Rattle.encoding.specs.Sequence.{tab}
 use Rattle.limits.proofs.Limited.{ours-stand}
 use Rattle.limits.specs.Blocks.{blocks, mostBits}
-use Rattle.limits.specs.Handed.{recordBytesAnswer, handedAnswer}
+use Rattle.limits.specs.Handed.{handedAnswer, recordBytesAnswer}
 use Rattle.limits.specs.Limit.{ourLimit}
 use Rattle.refusal.specs.declared.outcome.Outcome.the-variants.{Refused}
 use Rattle.refusal.specs.declared.outcome.Outcome.{Outcome}

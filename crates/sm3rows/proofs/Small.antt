@@ -27,7 +27,7 @@ use Rattle.circuit.specs.declared.given_row.RowAnswer.the-variants as row
 use Rattle.forms.specs.Rows.{terms}
 use Rattle.limits.proofs.handed.Asked.{bytes-holds}
 use Rattle.limits.proofs.limit.Decided.{allowed-range, limited-holds}
-use Rattle.limits.specs.Handed.{recordBytesAnswer, handedAnswer}
+use Rattle.limits.specs.Handed.{handedAnswer, recordBytesAnswer}
 use Rattle.limits.specs.Limit.{lengthAnswer}
 use Rattle.packing.proofs.Answers.{pack-holds, unpack-holds}
 use Rattle.packing.specs.Pack.{packAnswer}

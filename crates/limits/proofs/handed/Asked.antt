@@ -13,7 +13,7 @@ use lib.ListN.{length}
 use Rattle.encoding.specs.Packed.{packedLength, spareBits}
 use Rattle.limits.proofs.Limited.{Asks, Other, other-number}
 use Rattle.limits.proofs.limit.Tests.{limited-before, limited-done}
-use Rattle.limits.specs.Handed.{IsRecord, recordBytesAnswer, handedAnswer}
+use Rattle.limits.specs.Handed.{IsRecord, handedAnswer, recordBytesAnswer}
 use Rattle.limits.specs.Limit.{Allows}
 use Rattle.refusal.proofs.Small.{tested}
 use Rattle.refusal.proofs.Tests.{Before, equal-iff, no-test, one-test, past}

@@ -3,13 +3,13 @@
 use mathlib.Core.Logic.{_↔_, Iff·rfl}
 use mathlib.Core.Path.{_≡_, _∙_, ap, refl, sym}
 use Prim.Native.Nat.{ℕ}
-use Rattle.limits.proofs.Limited.{Other}
+use Rattle.limits.proofs.Limited.{Other, other-number}
 use Rattle.limits.proofs.limit.Decided.{beyond-limit, limit-cases, outside-limit, too-long, within-allows, within-limit}
 use Rattle.limits.specs.Limit.{Allows, allowance, lengthAnswer, limited}
 use Rattle.limits.specs.declared.limit.Allowance.the-variants.{Beyond, Within}
 use Rattle.limits.specs.declared.limit.Allowance.the-variants as allow
 use Rattle.limits.specs.declared.limit.Allowance.{Allowance}
-use Rattle.refusal.proofs.Tests.{Before, no-test, refused-done}
+use Rattle.refusal.proofs.Tests.{Before, refused-done}
 use Rattle.refusal.specs.Refusals.{outcomeNumber}
 use Rattle.refusal.specs.declared.outcome.Outcome.the-variants.{Done, Refused}
 use Rattle.refusal.specs.declared.outcome.Outcome.{Outcome}
@@ -89,10 +89,6 @@ module _ (l n : ℕ) where
   length-before =
       record { stands = λ r next e. refused-at Refused next (allowance l n) r e; passed = λ next e. passed-at Refused next (allowance l n) e }
 
-  pub length-done : (lengthAnswer l n Done ≡ Done) ↔ (Allows l n × (Done ≡ Done))
-  unfolding lengthAnswer
-  length-done = limited-done (λ next. next) no-test l n Iff·rfl
-
   -- an answer that is none of 2, 21 and 22 comes from what follows
   pub past-length : {Q : Type 0} (next z : Outcome) → Other (outcomeNumber z) → (next ≡ z) ↔ Q → (lengthAnswer l n next ≡ z) ↔ (Allows l n × Q)
   unfolding lengthAnswer
@@ -107,6 +103,9 @@ module _ (l n : ℕ) where
           (λ is above. absurd (other .not-2 (ap outcomeNumber (sym e ∙ ap at (too-long l n is above)))))
           (λ is range above. absurd (other .not-22 (ap outcomeNumber (sym e ∙ ap at (beyond-limit l n is range above)))))
           (λ allowed. (allowed, rest .0 (sym (ap at (within-limit l n allowed)) ∙ e)))
+
+  pub length-done : (lengthAnswer l n Done ≡ Done) ↔ (Allows l n × (Done ≡ Done))
+  length-done = past-length Done Done (other-number 0 refl refl refl) Iff·rfl
 
   pub length-passes : (next : Outcome) → Allows l n → lengthAnswer l n next ≡ next
   length-passes next allowed = length-before .passed next (length-done .1 (allowed, refl))

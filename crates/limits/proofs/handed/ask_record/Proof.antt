@@ -3,7 +3,7 @@ use mathlib.Core.Path.{_∙_, ap, sym}
 use borrow.Author.Needs.{needs}
 use denote.Ref.{now}
 use Rattle.limits.proofs.limit.Decided.{allowed-range, beyond-range, within-allows}
-use Rattle.limits.specs.Handed.{recordBytesAnswer, handedAnswer}
+use Rattle.limits.specs.Handed.{handedAnswer, recordBytesAnswer}
 use Rattle.limits.specs.Limit.{limited}
 use Rattle.refusal.specs.declared.outcome.Outcome.the-variants.{Done, Refused}
 use Rattle.limits.proofs.handed.ask_record.Statement.{statement}
