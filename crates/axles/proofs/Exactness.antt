@@ -5,16 +5,15 @@ use mathlib.Core.Bool.{true}
 use mathlib.Core.List.{List}
 use mathlib.Core.Path.{_≡_, _∙_, ap, refl, subst, sym}
 use Prim.Native.Nat.{ℕ, _*_, _%_, _<_, _≤_}
-use native.Mathlib.Nat.{zero-add}
 use native.Mathlib.Omega.{arith}
 use borrow.Author.Tests.{le-ltb}
 use lib.ListN.{length, take}
-use Rattle.assignment.proofs.Entries.{bytes-of-entries, entries-front, entry-of-wire, entry-written, length-entries}
-use Rattle.assignment.specs.Assignment.{entry}
+use Rattle.assignment.proofs.Entries.{entries-front, entry-of-wire}
+use Rattle.assignment.specs.Assignment.{entry, entryBytes}
 use Rattle.axles.proofs.Accepted.{accepted-iff}
 use Rattle.axles.proofs.Bands.{BandBits, band-bits, band-iff}
 use Rattle.axles.proofs.Congruent.{axle-wires-congruent, band-congruent}
-use Rattle.axles.proofs.Counts.{axle-wires, record-wires}
+use Rattle.axles.proofs.Counts.{record-wires}
 use Rattle.axles.proofs.exact.Appended.{number-wire-lt}
 use Rattle.axles.proofs.exact.Whole.{axle-circuit, wires-apart}
 use Rattle.axles.specs.Band.{InBand}
@@ -25,7 +24,6 @@ use Rattle.axles.specs.Produce.{axleAssignmentOf, axlesProduceAnswer, ax
 use Rattle.circuit.proofs.axles.Bounds.{bounds-iff}
 use Rattle.circuit.proofs.shape.Shape.{shape}
 use Rattle.circuit.specs.Axles.{axleBits, boundsInRange}
-use Rattle.circuit.specs.Circuit.{rowAt}
 use Rattle.circuit.specs.Ranges.{Allowed}
 use Rattle.circuit.specs.Wires.{wireCount}
 use Rattle.circuit.specs.declared.circuits.Circuit.the-variants.{Axles, Record}
@@ -42,7 +40,8 @@ use Rattle.record.proofs.exact.Record.{read-off, readOff}
 use Rattle.record.proofs.exact.WireBits.{beside-bits, judged-wires, wire-lt}
 use Rattle.record.specs.Layout.{wireOf}
 use Rattle.refusal.specs.declared.outcome.Outcome.the-variants.{Done}
-use Rattle.satisfaction.proofs.Acceptance.{Accepts, Passed, judged-entries}
+use Rattle.satisfaction.proofs.Acceptance.{Accepts, judged-entries}
+use Rattle.satisfaction.proofs.Whole as whole
 use Rattle.sm3.specs.Message.{digestBytes}
 
 -- the entries of the record's wires
@@ -59,16 +58,16 @@ module _ (lower upper : ℕ) (d a : List ℕ) (accepted : IsAccepted lower upper
 
   read-whole : BandBits lower upper (readOff (entry a))
       × Agree (entry a) 0 (wireCount (Axles lower upper)) (axleWireOf lower upper (readOff (entry a)))
-  unfolding rowAt
   read-whole =
-      axle-circuit lower upper (entry a) (judged-entries (accepts .passed)) (omega (arith, allowed)) (omega (arith, allowed)) .0 (accepts .satisfied)
+      axle-circuit lower upper (entry a) (judged-entries (accepts .passed)) (omega (arith, allowed)) (omega (arith, allowed)) .0
+      (whole.accepted-rows accepts)
 
   -- it is that of the record that is read off, byte for byte
   accepted-bytes : Bytes a → (r : ℕ → ℕ) → ((k : ℕ) → k < axleBits → readOff (entry a) k ≡ r k) → a ≡ axleAssignmentOf lower upper r
   unfolding axleAssignmentOf
   accepted-bytes bytes r same =
-      bytes-of-entries _ _ a bytes (accepts .passed .assignment-length)
-      (λ w l. ap (entry a) (sym (zero-add w)) ∙ read-whole .1 w l ∙ ap (λ s. s w) (axle-wires-congruent _ _ same lower upper))
+      whole.accepted-bytes accepts bytes _ (read-whole .1)
+      ∙ ap (entryBytes (wireCount (Axles lower upper))) (axle-wires-congruent _ _ same lower upper)
 
   band-record : Bytes d → Bytes a
       → (r : List ℕ) × IsRecord axleBits r × (digestBytes axleBits r ≡ d) × InBand lower upper r × (a ≡ axleAssignmentOf lower upper (bitOfBytes r))
@@ -97,29 +96,12 @@ module _ (lower upper : ℕ) (r : List ℕ) where
       beside-bits entries _ _ (wire-lt axleBits (bitOfBytes r) bits)
       (beside-bits 4 _ _ (number-wire-lt 4 _) (beside-bits 4 _ _ (number-wire-lt 4 _) (beside-bits 7 _ _ (number-wire-lt 7 _) (number-wire-lt 7 _))))
 
-  assigned-length : length assigned ≡ 8 * wireCount (Axles lower upper)
-  unfolding axleAssignmentOf
-  assigned-length = length-entries _ _
-
-  assigned-wires : (w : ℕ) → w < wireCount (Axles lower upper) → entry assigned w ≡ axleWireOf lower upper (bitOfBytes r) w
-  unfolding axleAssignmentOf
-  assigned-wires w l = entry-written _ _ w l (omega (arith, axle-wire-lt w))
-
   agree : Agree (entry assigned) 0 (wireCount (Axles lower upper)) (axleWireOf lower upper (bitOfBytes r))
-  agree w l = ap (entry assigned) (zero-add w) ∙ assigned-wires w l
+  unfolding axleAssignmentOf
+  agree = whole.written-agrees (Axles lower upper) _ axle-wire-lt
 
   record-agree : Agree (entry assigned) 0 entries (wireOf axleBits (bitOfBytes r))
   record-agree = wires-apart lower upper (entry assigned) (bitOfBytes r) .0 agree .0
-
-  passed : Passed (Axles lower upper) (digestBytes axleBits r) assigned
-  passed =
-      record {
-        digest-length = length-digest axleBits r;
-        assignment-length = assigned-length;
-        below = λ w l. omega (arith, assigned-wires w l, axle-wire-lt w);
-        one = record-agree 0 (omega (arith, record-wires)) ∙ judged-wires axleBits (bitOfBytes r) bits .one;
-        digest-wires = digest-wires axleBits r (entry assigned) record-agree;
-      }
 
   bits-read : (k : ℕ) → k < axleBits → bitOfBytes r k ≡ readOff (entry assigned) k
   bits-read k l = sym (read-off axleBits (entry assigned) (bitOfBytes r) bits record-agree k l)
@@ -127,18 +109,19 @@ module _ (lower upper : ℕ) (r : List ℕ) where
   -- it is accepted against the record's digest, where the record lies in the band
   assigned-accepted : Allowed (Axles lower upper) → IsRecord axleBits r → InBand lower upper r
       → IsAccepted lower upper (digestBytes axleBits r) assigned
-  unfolding rowAt
+  unfolding axleAssignmentOf
   assigned-accepted bounds is band =
       accepted-iff lower upper (digestBytes axleBits r) assigned .1 (
         bounds,
-        record {
-          passed = passed;
-          satisfied =
-              axle-circuit lower upper (entry assigned) (judged-entries passed) (omega (arith, bounds)) (omega (arith, bounds)) .1 (
-                band-congruent _ _ bits-read lower upper (band-bits lower upper r (is .bytes) .0 band),
-                subst (Agree (entry assigned) 0 (wireCount (Axles lower upper))) (axle-wires-congruent _ _ bits-read lower upper) agree,
-              );
-        },
+        whole.written-accepted (Axles lower upper) (axleWireOf lower upper (bitOfBytes r)) axle-wire-lt (digestBytes axleBits r)
+            (length-digest axleBits r)
+            (record-agree 0 (omega (arith, record-wires)) ∙ judged-wires axleBits (bitOfBytes r) bits .one)
+            (digest-wires axleBits r (entry assigned) record-agree)
+            (λ J.
+            axle-circuit lower upper (entry assigned) J (omega (arith, bounds)) (omega (arith, bounds)) .1 (
+              band-congruent _ _ bits-read lower upper (band-bits lower upper r (is .bytes) .0 band),
+              subst (Agree (entry assigned) 0 (wireCount (Axles lower upper))) (axle-wires-congruent _ _ bits-read lower upper) agree,
+            )),
       )
 
 -- A record in the band is not refused where there is room, and what the producer leaves is the record's assignment.

@@ -3,7 +3,7 @@
 use mathlib.Core.Bool.{Bool, cond, false, true}
 use mathlib.Core.List.{List}
 use mathlib.Core.Logic.{by-cases}
-use mathlib.Core.Path.{_≡_, refl, sym, ap, ap₂, _∙_}
+use mathlib.Core.Path.{_≡_, refl, sym, ap, _∙_}
 use Prim.Native.Nat.{ℕ, _+_, _-_, _*_, _/_, _%_, _<_}
 use native.Mathlib.Decide.{decLt}
 use native.Mathlib.Nat.{div-add-mod, sub-zero}
@@ -16,6 +16,7 @@ use Rattle.block.specs.Steps.{blockRows}
 use Rattle.block.specs.declared.step.Step.the-variants.{Message}
 use Rattle.circuit.proofs.exact.Frame.{block-row, start-row}
 use Rattle.circuit.proofs.place.FormLayout.{form-at}
+use Rattle.circuit.proofs.place.PlaceRange.{message-blocks}
 use Rattle.circuit.specs.Circuit.{begins, digestForm, formAt, formOf, messageForm, rowAt}
 use Rattle.circuit.specs.Circuits.{messageOf}
 use Rattle.circuit.specs.Places.{frameLayout, rowCount}
@@ -56,7 +57,8 @@ bit-row n i b l h =
     let bit : 32 * (b / 32) + b % 32 ≡ b = div-add-mod b 32 in
     block-row (Record n) i b l (omega arith)
     ∙ beside-first 512 _ _ b h
-    ∙ ap₂ (λ j k. messageForm (Record n) (messageOf (Record n) i) (512 * j + k) (blockFirst i + k)) (sub-zero i) bit
+    ∙ ap (messageForm (Record n) (messageOf (Record n) i) i) bit
+    ∙ ap (λ j. cond (ltb (512 * j + b) n) (Bit (record { 0 = blockFirst i + b })) (Fixed (record { 0 = blockFirst i + b }) (message n (λ k. 0) (512 * j + b)))) (sub-zero i)
 
 bit-rows : (r : List ℕ) (i b : ℕ) → i < blocksOfBytes (length r) → b < 512
     → formAt (Record (8 * length r)) (256 + (32320 * i + b))
@@ -89,7 +91,7 @@ module _ (n m k : ℕ) (same : blocks n ≡ blocks m) (below : k < rowCount (Rec
   digest-row j e l =
       let at : (n : ℕ) → k < rowCount (Record n) → k ≡ 256 + (blockRows * blocks n + j) → formAt (Record n) k ≡ digestForm (blockFirst (blocks n - 1)) (j / 32) (j % 32) =
       λ n below e.
-      form-at (Record n) k below ∙ ap (λ x. frameLayout (blocks n) (λ s i. formOf (Record n) i s) x) e
+      form-at (Record n) (message-blocks n) k below ∙ ap (λ x. frameLayout (blocks n) (λ s i. formOf (Record n) i s) x) e
       ∙ beside-then 256 _ _ (blockRows * blocks n + j) ∙ beside-then (blockRows * blocks n) _ _ j ∙ beside-first 256 _ _ j l in
       at n below e
       ∙ ap (λ c. digestForm (blockFirst (c - 1)) (j / 32) (j % 32)) same
@@ -98,7 +100,7 @@ module _ (n m k : ℕ) (same : blocks n ≡ blocks m) (below : k < rowCount (Rec
   same-row : formAt (Record n) k ≡ formAt (Record m) k
   unfolding rowCount
   same-row =
-      by-cases (decLt k 256) (λ l. start-row (Record n) k l ∙ sym (start-row (Record m) k l))
+      by-cases (decLt k 256) (λ l. start-row (Record n) (message-blocks n) k l ∙ sym (start-row (Record m) (message-blocks m) k l))
       (λ past.
       by-cases (decLt (k - 256) (blockRows * blocks n))
       (λ l. block-rest ((k - 256) / blockRows) ((k - 256) % blockRows) (omega arith) (omega arith) (omega arith))

@@ -1,3 +1,4 @@
 pub mod AllBlocks
 pub mod Frame
 pub mod Messages
+pub mod Series

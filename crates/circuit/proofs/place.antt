@@ -1,4 +1,3 @@
 pub mod FormLayout
-pub mod NextPlace
 pub mod PlaceRange
 pub mod WordByWord

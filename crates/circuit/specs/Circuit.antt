@@ -18,14 +18,15 @@ use Rattle.sm3.specs.Message.{message}
 use Rattle.sm3.specs.Sm3.{start, wordOf}
 use Rattle.sm3.specs.Words.{bit}
 
--- "its record wires by bit rows and its padding wires by fixed rows": bit k of the message m, on wire w
-unfoldable pub messageForm : Circuit → MessageSpan → ℕ → ℕ → Form
-messageForm c m k w =
-    cond (ltb k (m .bits)) (contentForm c (record { 0 = w })) (Fixed (record { 0 = w }) (message (m .bits) (λ i. 0) k))
-
 -- which bit of its message bit b of block i is
 abbrev pub messageBit : MessageSpan → ℕ → ℕ → ℕ
 messageBit m i b = 512 * (i - m .begin) + b
+
+-- "its record wires by bit rows and its padding wires by fixed rows": bit b of block i, which is one of the message m
+unfoldable pub messageForm : Circuit → MessageSpan → ℕ → ℕ → Form
+messageForm c m i b =
+    cond (ltb (messageBit m i b) (m .bits)) (contentForm c i b)
+    (Fixed (record { 0 = blockFirst i + b }) (message (m .bits) (λ i. 0) (messageBit m i b)))
 
 -- "Block 0 begins with the start words, each later block with the result of the one before": with the start words where its
 -- message begins
@@ -46,7 +47,7 @@ digestForm F k l = Equal (record { 0 = digestFirst + 32 * k + l }) (record { 0 =
 -- the form of line l of the step's word j in block i
 unfoldable pub formOf : Circuit → ℕ → Step → ℕ → ℕ → Form
 formOf c i Start j l = startForm j l
-formOf c i Message j l = messageForm c (messageOf c i) (messageBit (messageOf c i) i (32 * j + l)) (blockFirst i + (32 * j + l))
+formOf c i Message j l = messageForm c (messageOf c i) i (32 * j + l)
 formOf c i Q j l = qForm (blockFirst i) j l
 formOf c i P1 j l = p1Form (blockFirst i) j l
 formOf c i W j l = wForm (blockFirst i) j l

@@ -1,7 +1,8 @@
 -- What tells one circuit from another: how many blocks it has, the message that each block belongs to, the form of a bit of its content, and
 -- what is appended. Everything else is the same for all.
-use Prim.Native.Nat.{ℕ}
+use Prim.Native.Nat.{ℕ, _+_}
 use Rattle.circuit.specs.Axles.{axleBits, axleForm}
+use Rattle.circuit.specs.Frame.{blockFirst}
 use Rattle.circuit.specs.declared.circuits.Circuit.the-variants.{Record, Axles}
 use Rattle.circuit.specs.declared.circuits.Circuit.{Circuit}
 use Rattle.circuit.specs.declared.message.MessageSpan.{MessageSpan}
@@ -9,7 +10,6 @@ use Rattle.forms.specs.Positions.{one}
 use Rattle.forms.specs.declared.form.Form.the-variants.{Bit}
 use Rattle.forms.specs.declared.form.Form.{Form}
 use Rattle.limits.specs.Blocks.{blocks}
-use Rattle.refusal.specs.declared.numbers.WireNumber.{WireNumber}
 
 abbrev pub blockCount : Circuit → ℕ
 blockCount (Record n) = blocks n
@@ -20,10 +20,10 @@ abbrev pub messageOf : Circuit → ℕ → MessageSpan
 messageOf (Record n) i = record { bits = n; begin = 0 }
 messageOf (Axles lower upper) i = record { bits = axleBits; begin = 0 }
 
--- "its record wires by bit rows": the form of a bit of the message's content, on wire w
-abbrev pub contentForm : Circuit → WireNumber → Form
-contentForm (Record n) w = Bit w
-contentForm (Axles lower upper) w = Bit w
+-- "its record wires by bit rows": the form of bit b of block i, where that is one of the message's content
+abbrev pub contentForm : Circuit → ℕ → ℕ → Form
+contentForm (Record n) i b = Bit (record { 0 = blockFirst i + b })
+contentForm (Axles lower upper) i b = Bit (record { 0 = blockFirst i + b })
 
 -- nothing is appended to a record, so that the form of an appended row is never asked for; "append 22 wires", "append 34 rows"
 abbrev pub appendedWires : Circuit → ℕ

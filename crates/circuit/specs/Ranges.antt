@@ -18,6 +18,9 @@ Allowed (Axles lower upper) = (2 ≤ lower) × (lower ≤ upper) × (upper ≤ 9
 abbrev pub mostBlocks : ℕ
 mostBlocks = 31
 
+abbrev pub mostAppended : ℕ
+mostAppended = 2312
+
 abbrev pub mostWires : ℕ
 mostWires = 701193
 

@@ -1,13 +1,19 @@
 // The circuits, and what tells one from another: its blocks, the messages that they belong to, the rows of its content's bits, and what
 // is appended. No other function asks which circuit it has.
+ghost use mathlib.Core.Bool.{true};
 ghost use mathlib.Core.Path.{_≡_};
-ghost use Prim.Native.Nat.{_<_, _≤_};
+ghost use Prim.Native.Nat.{ℕ, _+_, _<_, _≤_};
+ghost use Rattle.circuit.specs.Circuit.{messageBit};
 ghost use Rattle.circuit.specs.Circuits.{appendedForm, appendedRows, appendedWires, blockCount, contentForm, messageOf};
-ghost use Rattle.circuit.specs.Ranges.{Allowed, OfMessage, mostBlocks};
+ghost use Rattle.circuit.specs.Frame.{blockFirst};
+ghost use Rattle.circuit.specs.Ranges.{Allowed, OfMessage, mostAppended, mostBlocks};
 ghost use Rattle.forms.specs.Terms.{Fit};
+ghost use Rattle.forms.specs.declared.form.Form.the-variants.{Bit};
 use crate::axles::AXLE_BITS;
 use crate::axles::axle_form;
 use crate::message::MessageSpan;
+use crate::wire::BLOCK_WIRES;
+use crate::wire::FIRST_BLOCK;
 use forms::form::Form;
 use refusal::numbers::WireNumber;
 
@@ -44,19 +50,42 @@ pub fn message_of(circuit: Circuit, i: u64) -> MessageSpan
     }
 }
 
-// The form of a bit of a message's content: a record's wire is free.
-pub fn content_form(circuit: Circuit, w: WireNumber) -> Form
-    ensures { λ f. ⌜ (f ≡ contentForm circuit w) × Fit f ⌝ }
+// Bit b of block i, on a wire that is free.
+fn free_form(i: u64, b: u64) -> Form
+    requires { ⌜ (i < mostBlocks) × (b < 512) ⌝ }
+    ensures { λ f. ⌜ (f ≡ Bit (record { 0 = blockFirst i + b })) × Fit f ⌝ }
+{
+    Form::Bit {
+        w: WireNumber(FIRST_BLOCK + BLOCK_WIRES * i + b),
+    }
+}
+
+// The form of bit b of block i, one of its message's content: a record's wire is free.
+pub fn content_form(circuit: Circuit, i: u64, b: u64) -> Form
+    requires { ⌜ Allowed circuit × (i < blockCount circuit) × (b < 512) × (messageBit (messageOf circuit i) i b < messageOf circuit i .bits) ⌝ }
+    ensures { λ f. ⌜ (f ≡ contentForm circuit i b) × Fit f ⌝ }
 {
     match circuit {
-        Circuit::Record { bits: _ } => Form::Bit { w },
-        Circuit::Axles { lower: _, upper: _ } => Form::Bit { w },
+        Circuit::Record { bits: _ } => free_form(i, b),
+        Circuit::Axles { lower: _, upper: _ } => free_form(i, b),
+    }
+}
+
+// Whether the content's bits of block i are free: then their rows say no more than that they are bits.
+pub fn content_is_free(circuit: Circuit, i: u64) -> bool
+    requires { ⌜ Allowed circuit ⌝ }
+    ensures { λ r. ⌜ (r ≡ true → (b : ℕ) → contentForm circuit i b ≡ Bit (record { 0 = blockFirst i + b })) ⌝ }
+{
+    match circuit {
+        Circuit::Record { bits: _ } => true,
+        Circuit::Axles { lower: _, upper: _ } => true,
     }
 }
 
 // How many wires are appended.
 pub fn appended_wires(circuit: Circuit) -> u64
-    ensures { λ r. ⌜ (r ≡ appendedWires circuit) × (r ≤ 22) ⌝ }
+    requires { ⌜ Allowed circuit ⌝ }
+    ensures { λ r. ⌜ (r ≡ appendedWires circuit) × (r ≤ mostAppended) ⌝ }
 {
     match circuit {
         Circuit::Record { bits: _ } => 0,
@@ -66,7 +95,8 @@ pub fn appended_wires(circuit: Circuit) -> u64
 
 // How many rows are appended.
 pub fn appended_rows(circuit: Circuit) -> u64
-    ensures { λ r. ⌜ (r ≡ appendedRows circuit) × (r ≤ 34) ⌝ }
+    requires { ⌜ Allowed circuit ⌝ }
+    ensures { λ r. ⌜ (r ≡ appendedRows circuit) × (r ≤ mostAppended) ⌝ }
 {
     match circuit {
         Circuit::Record { bits: _ } => 0,

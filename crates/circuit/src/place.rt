@@ -1,6 +1,6 @@
 // Where a row stands: its block, the step of the hash that it belongs to, and which row of that step it is.
 ghost use mathlib.Core.Path.{_≡_};
-ghost use Prim.Native.Nat.{_+_, _<_, _≤_};
+ghost use Prim.Native.Nat.{_≤_};
 ghost use Rattle.circuit.specs.Places.{placeAt, rowCount};
 ghost use Rattle.circuit.specs.Ranges.{Allowed, mostBlocks, mostRows};
 use crate::circuits::Circuit;
@@ -11,7 +11,6 @@ use block::place::Place;
 use block::place::block_place;
 use block::place::step_place;
 use block::step::Step;
-use block::step::lines_of;
 use refusal::numbers::RowNumber;
 
 // How many rows the start words have, and the digest.
@@ -44,22 +43,4 @@ pub fn place_of(blocks: u64, row: RowNumber) -> Place
         return step_place(Step::Digest, 0, k / 32, k % 32);
     }
     step_place(Step::Appended, 0, k - STATE_ROWS, 0)
-}
-
-// The place of the row after `row`, whose place is given. Within a word the line counts on, and no number is divided.
-pub fn next_place(blocks: u64, place: Place, row: RowNumber) -> Place
-    requires { ⌜ (0 < blocks) × (blocks ≤ mostBlocks) × (row .0 < mostRows) × (place ≡ placeAt blocks (row .0)) ⌝ }
-    ensures { λ r. ⌜ r ≡ placeAt blocks (row .0 + 1) ⌝ }
-{
-    let step = place.step;
-    let last = lines_of(step, place.index) - 1;
-    if place.line < last {
-        return Place {
-            block: place.block,
-            step,
-            index: place.index,
-            line: place.line + 1,
-        };
-    }
-    place_of(blocks, RowNumber(row.0 + 1))
 }

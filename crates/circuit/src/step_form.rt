@@ -45,7 +45,7 @@ pub fn form_of(circuit: Circuit, place: Place) -> Form
     let step = place.step;
     match step {
         Step::Start => start_form(j, l),
-        Step::Message => message_form(circuit, message, i, j, l),
+        Step::Message => message_form(circuit, message, i, 32 * j + l),
         Step::Q => q_form(first, j, l),
         Step::P1 => p1_form(first, j, l),
         Step::W => w_form(first, j, l),

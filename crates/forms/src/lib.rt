@@ -1,4 +1,5 @@
 // Words on wires, the row forms, and the terms of a row.
+pub mod buffer;
 pub mod coefficient;
 pub mod form;
 pub mod position;

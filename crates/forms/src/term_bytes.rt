@@ -2,19 +2,19 @@
 ghost use mathlib.Core.List.{List, _++_};
 ghost use mathlib.Core.Path.{_≡_};
 ghost use Prim.Native.Nat.{ℕ, _+_, _*_, _<_, _≤_};
-ghost use lib.ListN.{getD, length};
+ghost use lib.ListN.{length};
 ghost use Rattle.encoding.specs.Bytes.{leastFirst, twosComplement};
 ghost use Rattle.encoding.specs.Written.{Written};
 ghost use Rattle.field.specs.Field.{p};
 ghost use Rattle.forms.specs.Coefficients.{signed};
 ghost use Rattle.forms.specs.TermBytes.{termBytes, termsBytes};
-ghost use Rattle.forms.specs.Terms.{flat};
+ghost use Rattle.forms.specs.Terms.{flat, termAt};
 ghost use Rattle.forms.specs.declared.form.Term.{Term};
+use crate::buffer::term_at;
 use crate::coefficient::Signed;
 use crate::coefficient::coefficient_of;
 use crate::form::Term;
 use encoding::write::put_number;
-use refusal::numbers::WireNumber;
 
 // The number whose 8 bytes are those of the coefficient whose residue is k.
 fn coefficient_bits(k: u64) -> u64
@@ -39,17 +39,10 @@ fn put_term(out: &mut [u8], at: usize, term: Term)
 
 // Writes the first n terms to the front of `out`.
 pub fn put_terms(terms: &[u64], n: usize, out: &mut [u8])
-    requires { ⌜ (2 * n ≤ length (now terms)) × (12 * n ≤ length (now out)) × ((t : ℕ) → t < n → getD (now terms) (2 * t + 1) 0 < p) ⌝ }
+    requires { ⌜ (2 * n ≤ length (now terms)) × (12 * n ≤ length (now out)) × ((t : ℕ) → t < n → termAt (now terms) t .residue < p) ⌝ }
     ensures { λ _. ⌜ ((ts : List Term) (rest : List ℕ) → length ts ≡ n → now (terms .entry) ≡ flat ts ++ rest → Written 0 (termsBytes ts) (now (out .entry)) (now (out .exit))) ⌝ }
 {
     for i in 0..n {
-        put_term(
-            out,
-            12 * i,
-            Term {
-                wire: WireNumber(terms[2 * i]),
-                residue: terms[2 * i + 1],
-            },
-        );
+        put_term(out, 12 * i, term_at(terms, i));
     }
 }

@@ -1,4 +1,4 @@
-// The terms of a row form, in a lent buffer of numbers: wire, residue, wire, residue, ..
+// The terms of a row form, in a lent buffer of numbers.
 ghost use mathlib.Core.List.{[], _∷_, _++_};
 ghost use mathlib.Core.Path.{_≡_};
 ghost use Prim.Native.Nat.{ℕ, _+_, _-_, _*_, _<_, _≤_, _^_};
@@ -13,9 +13,11 @@ ghost use Rattle.forms.specs.Rows as rows;
 ghost use Rattle.forms.specs.Shape.{mostTerms};
 ghost use Rattle.forms.specs.Terms.{Filled, Fit, FitDifference, flat, termCount, termRoom, unsorted};
 ghost use Rattle.forms.specs.declared.form.Form.the-variants.{Bit, Choice, Difference, Equal, Fixed, Majority, Sum, XorOfThree, XorOfTwo};
+use crate::buffer::set_term;
 use crate::form::Addends;
 use crate::form::Digits;
 use crate::form::Form;
+use crate::form::Term;
 use crate::position::WordPosition;
 use crate::position::wire_of_bit;
 use crate::position::wire_past;
@@ -44,8 +46,7 @@ fn push(terms: &mut [u64], n: usize, wire: WireNumber, residue: u64)
     requires { ⌜ 2 * n + 2 ≤ length (now terms) ⌝ }
     ensures { λ _. ⌜ Written (2 * n) (flat (residue · wire ∷ [])) (now (terms .entry)) (now (terms .exit)) ⌝ }
 {
-    terms[2 * n] = wire.0;
-    terms[2 * n + 1] = residue;
+    set_term(terms, n, Term { wire, residue });
 }
 
 // Writes k times wire 0 behind the first n terms, unless k is 0; how many terms that is.

@@ -1,11 +1,11 @@
 // The lines of a row's terms: `row,part,wire,coefficient`.
 ghost use Prim.Native.Nat.{ℕ, _+_, _*_, _<_, _≤_};
-ghost use lib.ListN.{getD, length};
+ghost use lib.ListN.{length};
 ghost use Rattle.circuit.specs.Places.{rowCount};
 ghost use Rattle.circuit.specs.Ranges.{Allowed};
 ghost use Rattle.field.specs.Field.{p};
 ghost use Rattle.forms.specs.Coefficients.{signed};
-ghost use Rattle.forms.specs.Terms.{termRoom};
+ghost use Rattle.forms.specs.Terms.{termAt, termRoom};
 ghost use Rattle.listing.specs.Held.{heldLines};
 ghost use Rattle.listing.specs.Rows.{lineRoom, rowLines, rowRoom, termLine};
 ghost use Rattle.text.specs.Decimal.{signedField};
@@ -13,10 +13,11 @@ ghost use Rattle.text.specs.Put.{Put};
 ghost use Rattle.text.specs.Text.{lineFeed};
 use circuit::circuits::Circuit;
 use circuit::row::row_terms;
+use forms::buffer::term_at;
 use forms::coefficient::Signed;
 use forms::coefficient::coefficient_of;
+use forms::form::Term;
 use refusal::numbers::RowNumber;
-use refusal::numbers::WireNumber;
 use text::decimal::put_field;
 
 // How many bytes the lines of a row take at most: 163 terms, each of a line of at most 66 bytes.
@@ -37,22 +38,16 @@ fn put_coefficient(out: &mut [u8], at: usize, k: u64) -> usize
 }
 
 // The line of a term.
-pub fn put_term_line(
-    out: &mut [u8],
-    at: usize,
-    row: RowNumber,
-    part: u8,
-    wire: WireNumber,
-    residue: u64,
-) -> usize
-    requires { ⌜ (at + lineRoom ≤ length (now out)) × (residue < p) ⌝ }
-    ensures { λ r. ⌜ Put (now (out .entry)) at (termLine (row .0) part (wire .0) (signed residue)) (now (out .exit)) r × (r ≤ at + lineRoom) ⌝ }
+pub fn put_term_line(out: &mut [u8], at: usize, row: RowNumber, part: u8, term: Term) -> usize
+    requires { ⌜ (at + lineRoom ≤ length (now out)) × (term .residue < p) ⌝ }
+    ensures { λ r. ⌜ Put (now (out .entry)) at (termLine (row .0) part (term .wire .0) (signed (term .residue))) (now (out .exit)) r × (r ≤ at + lineRoom) ⌝ }
 {
+    let wire = term.wire;
     let a = put_field(out, at, row.0, b',');
     out[a] = part;
     out[a + 1] = b',';
     let b = put_field(out, a + 2, wire.0, b',');
-    put_coefficient(out, b, residue)
+    put_coefficient(out, b, term.residue)
 }
 
 // The lines of a part of so many terms, which `terms` holds from its term `from` on.
@@ -65,14 +60,12 @@ fn put_part(
     from: usize,
     many: usize,
 ) -> usize
-    requires { ⌜ (at + lineRoom * many ≤ length (now out)) × (2 * (from + many) ≤ length (now terms)) × ((t : ℕ) → t < from + many → getD (now terms) (2 * t + 1) 0 < p) ⌝ }
+    requires { ⌜ (at + lineRoom * many ≤ length (now out)) × (2 * (from + many) ≤ length (now terms)) × ((t : ℕ) → t < from + many → termAt (now terms) t .residue < p) ⌝ }
     ensures { λ r. ⌜ Put (now (out .entry)) at (heldLines (row .0) part (now (terms .entry)) from many) (now (out .exit)) r × (r ≤ at + lineRoom * many) ⌝ }
 {
     let mut end = at;
     for i in 0..many {
-        let k = 2 * (from + i);
-        let wire = WireNumber(terms[k]);
-        end = put_term_line(out, end, row, part, wire, terms[k + 1]);
+        end = put_term_line(out, end, row, part, term_at(terms, from + i));
     }
     end
 }

@@ -5,13 +5,11 @@
 use mathlib.Core.List.{List}
 use mathlib.Core.Path.{_≡_, _∙_, ap, refl, subst, sym}
 use Prim.Native.Nat.{ℕ, _+_, _*_, _%_, _<_, _≤_}
-use native.Mathlib.Nat.{zero-add}
 use native.Mathlib.Omega.{arith}
 use borrow.Author.Tests.{le-ltb}
 use lib.ListN.{length, take}
-use Rattle.assignment.proofs.Entries.{bytes-of-entries, entries-front, entry-of-wire, entry-written, length-entries}
-use Rattle.assignment.specs.Assignment.{entry}
-use Rattle.circuit.specs.Circuit.{rowAt}
+use Rattle.assignment.proofs.Entries.{entries-front, entry-of-wire}
+use Rattle.assignment.specs.Assignment.{entry, entryBytes}
 use Rattle.circuit.specs.Wires.{wireCount}
 use Rattle.circuit.specs.declared.circuits.Circuit.the-variants.{Record}
 use Rattle.encoding.proofs.Bits.{bit-of-bytes-lt}
@@ -33,7 +31,8 @@ use Rattle.record.specs.Demand3.{Demand3, IsAccepted}
 use Rattle.record.specs.Layout.{wireOf}
 use Rattle.record.specs.Produce.{assignmentOf, produceAnswer, produceLeft}
 use Rattle.refusal.specs.declared.outcome.Outcome.the-variants.{Done}
-use Rattle.satisfaction.proofs.Acceptance.{Accepts, Passed, judged-entries}
+use Rattle.satisfaction.proofs.Acceptance.{Accepts, judged-entries}
+use Rattle.satisfaction.proofs.Whole as whole
 use Rattle.sm3.specs.Message.{digestBytes}
 
 -- The assignment that is written from a record.
@@ -51,32 +50,22 @@ module _ (n : ℕ) (r : List ℕ) where
 
   pub assigned-wires : (w : ℕ) → w < wireCount (Record n) → entry assigned w ≡ wireOf n (bitOfBytes r) w
   unfolding assignmentOf
-  assigned-wires w l = entry-written _ _ w l (omega (arith, wire-lt n (bitOfBytes r) bits w))
+  assigned-wires = whole.written-wires (Record n) _ (wire-lt n (bitOfBytes r) bits)
 
   agree : Agree (entry assigned) 0 (wireCount (Record n)) (wireOf n (bitOfBytes r))
-  agree w l = ap (entry assigned) (zero-add w) ∙ assigned-wires w l
-
-  passed : Passed (Record n) (digestBytes n r) assigned
-  unfolding wireCount assignmentOf
-  passed =
-      record {
-        digest-length = length-digest n r;
-        assignment-length = length-entries _ _;
-        below = λ w l. omega (arith, assigned-wires w l, wire-lt n (bitOfBytes r) bits w);
-        one = assigned-wires 0 (omega arith) ∙ judged-wires n (bitOfBytes r) bits .one;
-        digest-wires = digest-wires (entry assigned) agree;
-      }
+  unfolding assignmentOf
+  agree = whole.written-agrees (Record n) _ (wire-lt n (bitOfBytes r) bits)
 
   -- it is accepted against the record's digest, with every limit that allows the length
   assigned-accepted : (l : ℕ) → Allows l n → IsAccepted l n (digestBytes n r) assigned
-  unfolding rowAt
+  unfolding assignmentOf wireCount
   assigned-accepted l allowed =
       accepted-iff l n (digestBytes n r) assigned .1 (
         allowed,
-        record {
-          passed = passed;
-          satisfied = some-record n (entry assigned) (judged-entries passed) .1 (bitOfBytes r, bits, agree);
-        },
+        whole.written-accepted (Record n) (wireOf n (bitOfBytes r)) (wire-lt n (bitOfBytes r) bits) (digestBytes n r) (length-digest n r)
+            (assigned-wires 0 (omega arith) ∙ judged-wires n (bitOfBytes r) bits .one)
+            (digest-wires (entry assigned) agree)
+            (λ J. some-record n (entry assigned) J .1 (bitOfBytes r, bits, agree)),
       )
 
 -- Wires that are those of what is read off them, with the bits of a digest: some record has that digest and reads so.
@@ -119,18 +108,16 @@ module _ (l n : ℕ) (d a : List ℕ) (accepted : IsAccepted l n d a) where
   accepts = accepted-iff l n d a .0 accepted .1
 
   read-off-wires : Agree (entry a) 0 (wireCount (Record n)) (wireOf n (readOff (entry a)))
-  unfolding rowAt
-  read-off-wires = circuit n (entry a) (judged-entries (accepts .passed)) .0 (accepts .satisfied)
+  read-off-wires = circuit n (entry a) (judged-entries (accepts .passed)) .0 (whole.accepted-rows accepts)
 
   pub accepted-wires : (w : ℕ) → w < wireCount (Record n) → entry a w ≡ wireOf n (readOff (entry a)) w
-  accepted-wires w l = ap (entry a) (sym (zero-add w)) ∙ read-off-wires w l
+  accepted-wires = whole.agree-at (entry a) _ read-off-wires
 
   -- byte for byte
   accepted-bytes : Bytes a → (s : ℕ → ℕ) → ((k : ℕ) → k < n → readOff (entry a) k ≡ s k) → a ≡ assignmentOf n s
   unfolding assignmentOf
   accepted-bytes bytes s same =
-      bytes-of-entries _ _ a bytes (accepts .passed .assignment-length)
-      (λ w l. accepted-wires w l ∙ ap (λ t. t w) (wires-congruent n _ _ same))
+      whole.accepted-bytes accepts bytes _ read-off-wires ∙ ap (entryBytes (wireCount (Record n))) (wires-congruent n _ _ same)
 
   accepted-record : Bytes d → Bytes a → (r : List ℕ) × IsRecord n r × (digestBytes n r ≡ d) × (a ≡ assignmentOf n (bitOfBytes r))
   accepted-record digest bytes =

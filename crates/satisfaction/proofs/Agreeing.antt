@@ -9,12 +9,11 @@ use borrow.Author.Count.{below-more, below-none}
 use lib.ListN.{length, take}
 use lib.Seq.{take-suc}
 use Rattle.assignment.specs.Assignment.{entry}
-use Rattle.circuit.specs.declared.message.MessageSpan.{MessageSpan}
 use Rattle.encoding.proofs.Bits.{number-cong, number-lt}
 use Rattle.encoding.proofs.Sequence.{each-beside, each-grid}
 use Rattle.encoding.specs.Sequence.{beside, grid}
 use Rattle.forms.specs.WordWires.{wordWires}
-use Rattle.satisfaction.specs.Agrees.{Agrees, BitsOf, BitsOfWords, Padded}
+use Rattle.satisfaction.specs.Agrees.{Agrees, BitsOf, BitsOfWords}
 use Rattle.sm3.proofs.WordBits.{bit-number}
 use Rattle.sm3.proofs.expansion.FirstWords.{W, W-block}
 use Rattle.sm3.specs.Sm3.{blockWord, expansion, extended}
@@ -95,7 +94,3 @@ first-words {w} {words} {bytes} (suc n) few room h =
     (first-words n (omega arith) (omega arith) (record { each = λ j l. h .each j (omega arith) }))
     (h .each n (omega arith) .value ∙ number-cong 32 _ _ (λ i l. ap (entry bytes) (add-assoc w (32 * n) i))
     ∙ sym (W-block (λ k. entry bytes (w + k)) n (omega arith)))
-
--- the padding of the same message, by another name
-pub padded-at : {m m′ : MessageSpan} {i : ℕ} {bytes : List ℕ} → m ≡ m′ → Padded m i bytes → Padded m′ i bytes
-padded-at {m} {m′} {i} {bytes} e h = subst (λ s. Padded s i bytes) e h

@@ -1,15 +1,14 @@
 -- The lowest row that is not satisfied is the lowest place at which the test of a row fails, so the laws of such a place are laws
 -- of that row; and a verdict tells whether there is one.
-use mathlib.Core.Bool.{false, true, true≢false}
+use mathlib.Core.Bool.{false, true}
 use mathlib.Core.Logic.{_↔_, by-cases}
-use mathlib.Core.Path.{_≡_, _∙_, ap, ap₂, subst, sym}
+use mathlib.Core.Path.{_≡_, ap, subst, sym}
 use Prim.Native.Nat.{ℕ, suc, _+_, _-_, _<_, _≤_}
 use native.Mathlib.Decide.{decLt}
 use native.Mathlib.Omega.{arith}
 use Rattle.encoding.proofs.Lowest as failing
 use Rattle.forms.specs.Rows.{Row, Satisfied, holds}
 use Rattle.refusal.specs.declared.numbers.RowNumber.{RowNumber}
-use Rattle.satisfaction.specs.Failing.{isFailing}
 use Rattle.satisfaction.specs.Lowest.{LowestFailing, lowest}
 use Rattle.satisfaction.specs.declared.rows_check.Verdict.the-variants.{AllSatisfied, Fails}
 use Rattle.satisfaction.specs.declared.rows_check.Verdict.{Verdict}
@@ -49,28 +48,15 @@ module _ (a : ℕ → ℕ) (rows : ℕ → Row) where
       by-cases (decLt i (k + m)) (λ before. lowest-all k m .0 first i l before)
       (λ past. lowest-all (k + m) n .0 rest i (omega arith) (omega arith)))
 
-  -- the same rows, by other names of their first and of their end
-  pub lowest-same : {n m k j : ℕ} → n ≡ m → k ≡ j → lowest a rows k (n - k) ≡ lowest a rows j (m - j)
-  lowest-same e f = ap₂ (λ n k. lowest a rows k (n - k)) e f
+  -- the same rows, by another name of their first
+  pub lowest-from : (m : ℕ) {j k : ℕ} → j ≡ k → lowest a rows k m ≡ AllSatisfied → lowest a rows j m ≡ AllSatisfied
+  lowest-from m e h = subst (λ i. lowest a rows i m ≡ AllSatisfied) (sym e) h
 
-  -- of the rows from k on and below n, m are judged: where they hold, the lowest is one after them; else it is among them
+  -- of the rows from k on and below n, m hold: the lowest is one after them
   module _ (n k m : ℕ) (l : k + m ≤ n) where
     pub lowest-past : lowest a rows k m ≡ AllSatisfied → lowest a rows k (n - k) ≡ lowest a rows (k + m) (n - (k + m))
     unfolding lowest
     lowest-past e = failing.lowest-past _ _ AllSatisfied n k m l (failing.none-all _ _ AllSatisfied apart k m e)
-
-    pub lowest-after : (v : Verdict) → v ≡ lowest a rows k m → isFailing v ≡ false
-        → lowest a rows k (n - k) ≡ lowest a rows (k + m) (n - (k + m))
-    lowest-after AllSatisfied e h = lowest-past (sym e)
-    lowest-after (Fails j) e h = absurd (true≢false h)
-
-    pub lowest-among : (v : Verdict) → v ≡ lowest a rows k m → isFailing v ≡ true → lowest a rows k (n - k) ≡ v
-    unfolding lowest
-    lowest-among AllSatisfied e h = absurd (true≢false (sym h))
-    lowest-among (Fails j) e h =
-        failing.lowest-parted _ _ AllSatisfied n k m l
-        ∙ failing.lowest-among _ _ AllSatisfied apart k m _ (λ none. absurd (omega (arith, ap named (e ∙ none))))
-        ∙ sym e
 
 -- The lowest of the rows from k on, of n in all.
 module _ (a : ℕ → ℕ) (rows : ℕ → Row) (n k : ℕ) where

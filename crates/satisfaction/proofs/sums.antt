@@ -1,1 +1,1 @@
-pub mod RunningSum
+pub mod TermByTerm

@@ -9,10 +9,13 @@ use Rattle.block.specs.BlockWires.{roundWires, stateWires}
 use Rattle.block.specs.Steps.{rowsBeforeRound}
 use Rattle.block.specs.Wires.{pairsAt, resultAt, roundWidth, roundsAt}
 use Rattle.circuit.specs.Circuit.{messageBit}
+use Rattle.circuit.specs.Circuits.{contentForm}
 use Rattle.circuit.specs.Wires.{blockFirst}
+use Rattle.circuit.specs.declared.circuits.Circuit.{Circuit}
 use Rattle.circuit.specs.declared.message.MessageSpan.{MessageSpan}
 use Rattle.encoding.specs.Bits.{number}
 use Rattle.encoding.specs.Sequence.{grid}
+use Rattle.forms.specs.Rows.{Satisfied, rowOf}
 use Rattle.forms.specs.WordWires.{wordWires}
 use Rattle.sm3.specs.Message.{message}
 use Rattle.sm3.specs.Sm3.{pairWord, rounds, wordOf, xorState}
@@ -56,3 +59,7 @@ pub data PastExpansion (F : ℕ) (x : List ℕ) (v : State) (bytes : List ℕ) (
 pub record Padded (m : MessageSpan) (i : ℕ) (bytes : List ℕ) : Type 0 where
   pub each : (k : ℕ) → k < 512 → m .bits ≤ messageBit m i k
       → entry bytes (blockFirst i + k) ≡ message (m .bits) (λ j. 0) (messageBit m i k)
+
+-- the rows of the content's bits in block i, which is one of the message m, are satisfied
+pub record ContentHolds (c : Circuit) (m : MessageSpan) (i : ℕ) (bytes : List ℕ) : Type 0 where
+  pub each : (b : ℕ) → b < 512 → messageBit m i b < m .bits → Satisfied (entry bytes) (rowOf (contentForm c i b))

@@ -1,6 +1,6 @@
 pub mod Agrees
 pub mod Check
-pub mod Failing
 pub mod Former
-pub mod Lent
 pub mod Lowest
+pub mod Reached
+pub mod Sums

@@ -1,6 +1,6 @@
 // The rows of a circuit, held against an assignment.
 ghost use mathlib.Core.Path.{_≡_};
-ghost use Prim.Native.Nat.{_-_, _*_, _<_, _≤_};
+ghost use Prim.Native.Nat.{_*_};
 ghost use lib.ListN.{length};
 ghost use Rattle.assignment.specs.Assignment.{entry};
 ghost use Rattle.assignment.specs.Bounded.{BelowPrime};
@@ -9,16 +9,18 @@ ghost use Rattle.circuit.specs.Places.{rowCount};
 ghost use Rattle.circuit.specs.Ranges.{Allowed};
 ghost use Rattle.circuit.specs.Wires.{wireCount};
 ghost use Rattle.satisfaction.specs.Lowest.{lowest};
+use crate::blocks_check::rows_held;
+use crate::sums::Sums;
+use crate::sums::add_term;
 use crate::sums::part_product;
 use crate::sums::term_value;
 use circuit::circuits::Circuit;
-use circuit::circuits::block_count;
-use circuit::place::next_place;
-use circuit::place::place_of;
-use circuit::row::place_terms;
-use field::sum;
+use circuit::place::row_count;
+use circuit::row::unsorted_terms;
+use forms::buffer::term_at;
 use forms::terms::TERM_ROOM;
 use refusal::numbers::RowNumber;
+use sm3::constants::rotated_constants;
 
 // What rows make of an assignment.
 pub enum Verdict {
@@ -28,51 +30,40 @@ pub enum Verdict {
     Fails(RowNumber),
 }
 
-// The lowest row from `from` on and below `to` that is not satisfied, if there is one: the rows outside, the terms of each row
-// inside, those of A, of B and of C.
-pub fn lowest_between(
-    circuit: Circuit,
-    from: RowNumber,
-    to: RowNumber,
-    assignment: &[u8],
-) -> Verdict
-    requires { ⌜ Allowed circuit × (length (now assignment) ≡ 8 * wireCount circuit) × (from .0 < to .0) × (to .0 ≤ rowCount circuit) × BelowPrime (now assignment) ⌝ }
-    ensures { λ r. ⌜ r ≡ lowest (entry (now (assignment .entry))) (rowAt circuit) (from .0) (to .0 - from .0) ⌝ }
+// The lowest row of a circuit that is not satisfied, if there is one: the rows outside, the terms of each row inside. Rows that hold by
+// what a run of wires is are passed by.
+pub fn lowest_unsatisfied(circuit: Circuit, assignment: &[u8]) -> Verdict
+    requires { ⌜ Allowed circuit × (length (now assignment) ≡ 8 * wireCount circuit) × (entry (now assignment) 0 ≡ 1) × BelowPrime (now assignment) ⌝ }
+    ensures { λ r. ⌜ r ≡ lowest (entry (now (assignment .entry))) (rowAt circuit) 0 (rowCount circuit) ⌝ }
 {
-    let blocks = block_count(circuit);
-    let end = to.0;
+    let constants = rotated_constants();
+    let end = row_count(circuit);
     let mut terms = [0u64; TERM_ROOM];
-    let mut place = place_of(blocks, from);
-    let mut k = from.0;
+    let mut k = 0;
     'rows: loop {
-        let step = place.step;
-        let counts = place_terms(
-            circuit,
-            place.block,
-            step,
-            place.index,
-            place.line,
-            &mut terms,
-        );
-        let mut a = 0;
-        for t in 0..counts.a {
-            a = sum(a, term_value(assignment, &terms, t));
-        }
-        let mut b = 0;
-        for t in counts.a..counts.a + counts.b {
-            b = sum(b, term_value(assignment, &terms, t));
-        }
-        let mut c = 0;
-        for t in counts.a + counts.b..counts.a + counts.b + counts.c {
-            c = sum(c, term_value(assignment, &terms, t));
-        }
-        if part_product(a, b) != c {
-            break 'rows Verdict::Fails(RowNumber(k));
-        }
-        if k + 1 == end {
+        if k == end {
             break 'rows Verdict::AllSatisfied;
         }
-        place = next_place(blocks, place, RowNumber(k));
+        let held = rows_held(circuit, RowNumber(k), assignment, &constants);
+        if 0 < held {
+            k += held;
+            continue 'rows;
+        }
+        let counts = unsorted_terms(circuit, RowNumber(k), &mut terms);
+        let count = counts.a + counts.b + counts.c;
+        let mut sums = Sums { a: 0, b: 0, c: 0 };
+        let mut t = 0;
+        loop {
+            if t == count {
+                if part_product(sums.a, sums.b) != sums.c {
+                    break 'rows Verdict::Fails(RowNumber(k));
+                }
+                break;
+            }
+            let x = term_value(assignment, term_at(&terms, t));
+            sums = add_term(sums, counts, t, x);
+            t += 1;
+        }
         k += 1;
     }
 }

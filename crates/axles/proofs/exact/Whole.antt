@@ -10,6 +10,7 @@ use Rattle.axles.proofs.exact.Appended.{appended-run}
 use Rattle.axles.specs.Band.{tensPlace}
 use Rattle.axles.specs.Layout.{appended, axleWireOf}
 use Rattle.circuit.proofs.exact.Frame.{rows-apart}
+use Rattle.circuit.proofs.place.PlaceRange.{message-blocks}
 use Rattle.circuit.specs.Axles.{axleBits, axleForm, tensByte, tensLeft}
 use Rattle.circuit.specs.Circuit.{formAt, formOf, messageForm}
 use Rattle.circuit.specs.Places.{rowCount}
@@ -51,11 +52,11 @@ module _ (lower upper : ℕ) (a : ℕ → ℕ) where
   unfolding formOf messageForm
   record-rows = (
     λ h.
-        let apart = rows-apart (Axles lower upper) a .0 h in
-        (rows-apart (Record axleBits) a .1 (apart .0, (apart .1 .0, (apart .1 .1 .0, λ k l. absurd (omega arith)))), apart .1 .1 .1),
+        let apart = rows-apart (Axles lower upper) (message-blocks axleBits) a .0 h in
+        (rows-apart (Record axleBits) (message-blocks axleBits) a .1 (apart .0, (apart .1 .0, (apart .1 .1 .0, λ k l. absurd (omega arith)))), apart .1 .1 .1),
     λ (rows, more).
-        let apart = rows-apart (Record axleBits) a .0 rows in
-        rows-apart (Axles lower upper) a .1 (apart .0, (apart .1 .0, (apart .1 .1 .0, more))),
+        let apart = rows-apart (Record axleBits) (message-blocks axleBits) a .0 rows in
+        rows-apart (Axles lower upper) (message-blocks axleBits) a .1 (apart .0, (apart .1 .0, (apart .1 .1 .0, more))),
   )
 
   pub axle-circuit : Judged a → lower ≤ 99 → upper ≤ 99

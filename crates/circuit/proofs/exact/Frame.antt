@@ -55,7 +55,7 @@ module _ (a : ℕ → ℕ) (J : Judged a) where
 abbrev pub blockRowsOf : Circuit → ℕ → ℕ → Form
 blockRowsOf C i = beside 512 (grid 32 (formOf C i Message)) (blockForms (blockFirst i) (begins (messageOf C i) i))
 
-module _ (C : Circuit) (a : ℕ → ℕ) where
+module _ (C : Circuit) (some : 0 < blockCount C) (a : ℕ → ℕ) where
   pub rows-apart : Holds a (rowCount C) (formAt C)
       ↔ (Holds a 256 (grid 32 startForm)
       × (Holds a (blockRows * blockCount C) (grid blockRows (blockRowsOf C))
@@ -64,7 +64,7 @@ module _ (C : Circuit) (a : ℕ → ℕ) where
   rows-apart =
       let c : ℕ = blockRows * blockCount C in
       let all : 256 + (c + (256 + appendedRows C)) ≡ rowCount C = omega arith in
-      Iff·trans (each-same (λ k f. Satisfied a (rowOf f)) (rowCount C) (λ k. k) (formAt C) (wholeForms C) (form-at C))
+      Iff·trans (each-same (λ k f. Satisfied a (rowOf f)) (rowCount C) (λ k. k) (formAt C) (wholeForms C) (form-at C some))
       (Iff·trans
       (subst (λ m. Holds a m (wholeForms C) ↔ Holds a (256 + (c + (256 + appendedRows C))) (wholeForms C)) all Iff·rfl)
       (Iff·trans (each-beside (λ k f. Satisfied a (rowOf f)) 256 (c + (256 + appendedRows C)) _ _)
@@ -74,25 +74,25 @@ module _ (C : Circuit) (a : ℕ → ℕ) where
       (and-given Iff·rfl (λ blocks. each-beside (λ k f. Satisfied a (rowOf f)) 256 (appendedRows C) _ _))))))
 
 -- a start row
-pub start-row : (C : Circuit) (k : ℕ) → k < 256 → formAt C k ≡ grid 32 startForm k
+pub start-row : (C : Circuit) → 0 < blockCount C → (k : ℕ) → k < 256 → formAt C k ≡ grid 32 startForm k
 unfolding frameLayout formOf rowCount
-start-row C k l = form-at C k (omega arith) ∙ beside-first 256 _ _ k l
+start-row C some k l = form-at C some k (omega arith) ∙ beside-first 256 _ _ k l
 
 -- row k of block i
 pub block-row : (C : Circuit) (i k : ℕ) → i < blockCount C → k < blockRows → formAt C (256 + (blockRows * i + k)) ≡ blockRowsOf C i k
 unfolding frameLayout blockLayout roundsLayout roundLayout expansionLayout formOf blockForms roundsForms roundForms expansionForms rowCount
 block-row C i k l h =
-    form-at C (256 + (blockRows * i + k)) (omega arith)
+    form-at C (omega arith) (256 + (blockRows * i + k)) (omega arith)
     ∙ beside-then 256 _ _ (blockRows * i + k)
     ∙ beside-first (blockRows * blockCount C) _ _ (blockRows * i + k) (omega arith)
     ∙ grid-at blockRows (blockRowsOf C) i k h
 
 -- a row of the digest
-pub digest-row : (C : Circuit) (k : ℕ) → k < 256
+pub digest-row : (C : Circuit) → 0 < blockCount C → (k : ℕ) → k < 256
     → formAt C (256 + (blockRows * blockCount C + k)) ≡ grid 32 (digestForm (blockFirst (blockCount C - 1))) k
 unfolding frameLayout formOf rowCount
-digest-row C k l =
-    form-at C (256 + (blockRows * blockCount C + k)) (omega arith)
+digest-row C some k l =
+    form-at C some (256 + (blockRows * blockCount C + k)) (omega arith)
     ∙ beside-then 256 _ _ (blockRows * blockCount C + k)
     ∙ beside-then (blockRows * blockCount C) _ _ k
     ∙ beside-first 256 _ _ k l

@@ -47,16 +47,18 @@ module _ (a : ℕ → ℕ) (J : Judged a) where
       (subst (λ S. Agree a (blockFirst (i - 1) + resultAt) 256 (stateWires S)) (sym (more .1))
       (block-result a B b (i - 1) (earlier (i - 1) (omega (arith, more .0))))))
 
-  -- the row of bit k of the message m with the content r, on wire w
-  message-row : (C : Circuit) (m : MessageSpan) (r : ℕ → ℕ) (k w : ℕ)
-      → (k < m .bits → (Satisfied a (rowOf (contentForm C (record { 0 = w }))) ↔ (a w ≡ r k)))
-      → (Satisfied a (rowOf (messageForm C m k w)) ↔ (a w ≡ message (m .bits) r k))
+  -- the row of bit b of block i, which is one of the message m with the content r
+  message-row : (C : Circuit) (m : MessageSpan) (r : ℕ → ℕ) (i b : ℕ)
+      → (messageBit m i b < m .bits → (Satisfied a (rowOf (contentForm C i b)) ↔ (a (blockFirst i + b) ≡ r (messageBit m i b))))
+      → (Satisfied a (rowOf (messageForm C m i b)) ↔ (a (blockFirst i + b) ≡ message (m .bits) r (messageBit m i b)))
   unfolding messageForm
-  message-row C m r k w content =
+  message-row C m r i b content =
+      let k : ℕ = messageBit m i b in
+      let w : ℕ = blockFirst i + b in
       of-cond (λ f. Satisfied a (rowOf f) ↔ (a w ≡ message (m .bits) r k)) (ltb k (m .bits))
       (λ t.
       let below = ltb-true k (m .bits) t in
-      subst (λ x. Satisfied a (rowOf (contentForm C (record { 0 = w }))) ↔ (a w ≡ x)) (sym (message-content (m .bits) r k below)) (content below))
+      subst (λ x. Satisfied a (rowOf (contentForm C i b)) ↔ (a w ≡ x)) (sym (message-content (m .bits) r k below)) (content below))
       (λ t.
       subst (λ x. Satisfied a (rowOf (Fixed (record { 0 = w }) (message (m .bits) (λ i. 0) k))) ↔ (a w ≡ x))
       (message-padding (m .bits) (λ i. 0) r k (ltb-false k (m .bits) t))
@@ -65,7 +67,7 @@ module _ (a : ℕ → ℕ) (J : Judged a) where
   -- the rows of the 512 bits of block i
   pub message-run : (C : Circuit) (i : ℕ) (r : ℕ → ℕ)
       → ((k : ℕ) → k < 512 → messageBit (messageOf C i) i k < messageOf C i .bits
-      → (Satisfied a (rowOf (contentForm C (record { 0 = blockFirst i + k }))) ↔ (a (blockFirst i + k) ≡ r (messageBit (messageOf C i) i k))))
+      → (Satisfied a (rowOf (contentForm C i k)) ↔ (a (blockFirst i + k) ≡ r (messageBit (messageOf C i) i k))))
       → (Holds a 512 (grid 32 (formOf C i Message))
       ↔ Agree a (blockFirst i) 512 (blockBits (message (messageOf C i .bits) r) (i - messageOf C i .begin)))
   unfolding formOf grid blockBits
@@ -74,7 +76,7 @@ module _ (a : ℕ → ℕ) (J : Judged a) where
       (λ k l.
       let bit : 32 * (k / 32) + k % 32 ≡ k = omega arith in
       subst
-      (λ (x : ℕ). Satisfied a (rowOf (messageForm C (messageOf C i) (messageBit (messageOf C i) i x) (blockFirst i + x)))
+      (λ (x : ℕ). Satisfied a (rowOf (messageForm C (messageOf C i) i x))
       ↔ (a (blockFirst i + k) ≡ message (messageOf C i .bits) r (messageBit (messageOf C i) i k)))
       (sym bit)
-      (message-row C (messageOf C i) r (messageBit (messageOf C i) i k) (blockFirst i + k) (content k l)))
+      (message-row C (messageOf C i) r i k (content k l)))

@@ -2,7 +2,7 @@
 use mathlib.Core.Path.{_≡_}
 use Prim.Native.Nat.{ℕ, _+_, _-_, _*_, _<_, _≤_}
 use native.Mathlib.Omega.{arith}
-use borrow.Author.Tests.{eqb-false}
+use borrow.Author.Tests.{eqb-false, ltb-true}
 use lib.Dec.{eqb, ltb}
 use Rattle.block.proofs.shape.BlockApart.{ff-apart, gg-apart, p0-apart, p1-apart, q-apart, result-apart, ss2-apart, tt1-apart, tt2-apart, u-apart, w-prime-apart, w-apart}
 use Rattle.block.specs.Ranges.{InStep}
@@ -12,7 +12,7 @@ use Rattle.block.specs.declared.step.Step.the-variants.{Start, Message, Q, P1, 
 use Rattle.block.specs.declared.step.Step.{Step}
 use Rattle.circuit.proofs.place.PlaceRange.{in-circuit, some-blocks}
 use Rattle.circuit.proofs.shape.AxlesApart.{axle-apart}
-use Rattle.circuit.specs.Circuit.{begins, beginsAt, digestForm, formAt, formOf, messageForm, startForm}
+use Rattle.circuit.specs.Circuit.{begins, beginsAt, digestForm, formAt, formOf, messageBit, messageForm, startForm}
 use Rattle.circuit.specs.Circuits.{appendedForm, appendedRows, blockCount, contentForm, messageOf}
 use Rattle.circuit.specs.Places.{placeAt, rowCount}
 use Rattle.circuit.specs.Ranges.{Allowed, InCircuit}
@@ -41,9 +41,11 @@ begin-before : (C : Circuit) (i : ℕ) → messageOf C i .begin ≤ i
 begin-before (Record n) i = omega arith
 begin-before (Axles lower upper) i = omega arith
 
-content-apart : (C : Circuit) (m w : ℕ) → 1 ≤ w → w < m → Apart m (contentForm C (record { 0 = w }))
-content-apart (Record n) m w low high = omega arith
-content-apart (Axles lower upper) m w low high = omega arith
+pub content-apart : (C : Circuit) → Allowed C → (i b : ℕ) → i < blockCount C → b < 512 → messageBit (messageOf C i) i b < messageOf C i .bits
+    → Apart (wireCount C) (contentForm C i b)
+unfolding wireCount
+content-apart (Record n) h i b l k inside = omega arith
+content-apart (Axles lower upper) h i b l k inside = omega arith
 
 appended-apart : (C : Circuit) → Allowed C → (k : ℕ) → k < appendedRows C → Apart (wireCount C) (appendedForm C k)
 appended-apart (Record n) h k l = absurd (omega arith)
@@ -56,7 +58,7 @@ module _ (C : Circuit) (allowed : Allowed C) where
 
   digest-apart : (j l : ℕ) → InStep 0 Digest j l → Apart (wireCount C) (digestForm (blockFirst (blockCount C - 1)) j l)
   unfolding digestForm wireCount
-  digest-apart j l h = omega (arith, some-blocks C)
+  digest-apart j l h = omega (arith, some-blocks C allowed)
 
   module _ (i : ℕ) (h : i < blockCount C) where
     low : 1 ≤ beginsAt (messageOf C i) i
@@ -69,16 +71,17 @@ module _ (C : Circuit) (allowed : Allowed C) where
     unfolding wireCount
     last = omega arith
 
-    message-apart : (m : MessageSpan) (k b : ℕ) → b < 512 → Apart (wireCount C) (messageForm C m k (blockFirst i + b))
+    message-apart : (b : ℕ) → b < 512 → Apart (wireCount C) (messageForm C (messageOf C i) i b)
     unfolding messageForm
-    message-apart m k b g =
-        of-cond (Apart (wireCount C)) (ltb k (m .bits)) (λ t. content-apart C (wireCount C) (blockFirst i + b) (omega arith) (omega (arith, last)))
-        (λ t. omega (arith, last, message-lt (m .bits) (λ i. 0) (λ k h. omega arith) k))
+    message-apart b g =
+        let m : MessageSpan = messageOf C i in
+        of-cond (Apart (wireCount C)) (ltb (messageBit m i b) (m .bits)) (λ t. content-apart C allowed i b h g (ltb-true _ _ t))
+        (λ t. omega (arith, last, message-lt (m .bits) (λ i. 0) (λ k h. omega arith) (messageBit m i b)))
 
     form-apart : (s : Step) (j l : ℕ) → InStep (appendedRows C) s j l → Apart (wireCount C) (formOf C i s j l)
     unfolding formOf begins
     form-apart Start j l g = start-apart j l g
-    form-apart Message j l g = message-apart (messageOf C i) _ (32 * j + l) (omega arith)
+    form-apart Message j l g = message-apart (32 * j + l) (omega arith)
     form-apart Q j l g = q-apart _ _ _ low lies last j l g
     form-apart P1 j l g = p1-apart _ _ _ low lies last j l g
     form-apart W j l g = w-apart _ _ _ low lies last j l g
@@ -101,4 +104,4 @@ module _ (C : Circuit) (allowed : Allowed C) where
   unfolding formAt
   row-apart k l =
       let q = placeAt (blockCount C) k in
-      place-apart (q .step) (q .block) (q .index) (q .line) (in-circuit C k l)
+      place-apart (q .step) (q .block) (q .index) (q .line) (in-circuit C allowed k l)

@@ -1,11 +1,9 @@
 // The rows of a block's 512 bits, which are those of the padded message.
 ghost use mathlib.Core.Path.{_≡_};
-ghost use Prim.Native.Nat.{_+_, _*_, _<_, _≤_};
-ghost use Rattle.block.specs.Ranges.{InStep};
-ghost use Rattle.block.specs.declared.step.Step.the-variants.{Message};
-ghost use Rattle.circuit.specs.Circuit.{messageBit, messageForm};
-ghost use Rattle.circuit.specs.Ranges.{OfMessage};
-ghost use Rattle.circuit.specs.Wires.{blockFirst};
+ghost use Prim.Native.Nat.{_*_, _<_, _≤_};
+ghost use Rattle.circuit.specs.Circuit.{messageForm};
+ghost use Rattle.circuit.specs.Circuits.{blockCount, messageOf};
+ghost use Rattle.circuit.specs.Ranges.{Allowed, OfMessage};
 ghost use Rattle.forms.specs.Terms.{Fit};
 ghost use Rattle.limits.specs.Blocks.{blocks, mostBits};
 ghost use Rattle.sm3.specs.Message.{message};
@@ -32,20 +30,18 @@ pub fn padding_bit(bits: u64, k: u64) -> u64
     (bits >> (end - 1 - k)) % 2
 }
 
-// Line l of word j of block i, which is one of the message: its content is the circuit's, and its padding is fixed.
-pub fn message_form(circuit: Circuit, message: MessageSpan, i: u64, j: u64, l: u64) -> Form
-    requires { ⌜ OfMessage message i × InStep 0 Message j l ⌝ }
-    ensures { λ f. ⌜ (f ≡ messageForm circuit message (messageBit message i (32 * j + l)) (blockFirst i + (32 * j + l))) × Fit f ⌝ }
+// Bit b of block i, which is one of the message: its content is the circuit's, and its padding is fixed.
+pub fn message_form(circuit: Circuit, message: MessageSpan, i: u64, b: u64) -> Form
+    requires { ⌜ Allowed circuit × (i < blockCount circuit) × (message ≡ messageOf circuit i) × OfMessage message i × (b < 512) ⌝ }
+    ensures { λ f. ⌜ (f ≡ messageForm circuit message i b) × Fit f ⌝ }
 {
-    let b = 32 * j + l;
     let k = 512 * (i - message.begin) + b;
-    let first = block_first(i);
-    let w = WireNumber(first.0 + b);
     if k < message.bits {
-        return content_form(circuit, w);
+        return content_form(circuit, i, b);
     }
+    let first = block_first(i);
     Form::Fixed {
-        w,
+        w: WireNumber(first.0 + b),
         bit: padding_bit(message.bits, k),
     }
 }

@@ -5,18 +5,16 @@ use mathlib.Core.Path.{_≡_, refl, ap, ap₂, sym, _∙_}
 use Prim.Native.Nat.{ℕ, suc, zero-le, _+_, _*_, _<_, _≤_}
 use native.Mathlib.Numerals.{add-one}
 use native.Mathlib.Omega.{arith}
-use lib.ListN.{drop, getD, length, length-append, take}
-use lib.Seq.{length-take-le, split-at, take-all, take-suc}
+use lib.ListN.{getD, length, length-append, take}
+use lib.Seq.{length-take-le, take-all, take-suc}
 use Rattle.encoding.proofs.Bytes.{length-least-first, length-twos-complement}
 use Rattle.encoding.proofs.Written.{length-written, written-as, written-none, written-then}
 use Rattle.encoding.specs.Bytes.{leastFirst, twosComplement}
 use Rattle.encoding.specs.Written.{Written}
-use Rattle.forms.proofs.terms.Flat.{residue-at, wire-at}
+use Rattle.forms.proofs.terms.FlatAll.{none, term-front}
 use Rattle.forms.specs.Coefficients.{coefficient}
-use Rattle.forms.specs.Positions.{one}
-use Rattle.forms.specs.Rows.{_·_}
 use Rattle.forms.specs.TermBytes.{termBytes, termsBytes}
-use Rattle.forms.specs.Terms.{flat}
+use Rattle.forms.specs.Terms.{flat, termAt}
 use Rattle.forms.specs.declared.form.Term.{Term}
 
 term-length : (t : Term) → length (termBytes t) ≡ 12
@@ -53,24 +51,19 @@ unfolding termsBytes
 terms-none terms n l = record { within = zero-le; kept = refl; bytes = λ ts rest long e. written-none 0 l }
 
 module _ {terms : List ℕ} {n : ℕ} {l m : List ℕ} {i : ℕ} (h : TermsWritten terms n l m i) where
-  pub terms-next : {r : List ℕ} → i < n
-      → Written (12 * i) (termBytes (getD terms (2 * i + 1) 0 · record { 0 = getD terms (2 * i) 0 })) m r
+  pub terms-next : {r : List ℕ} {u : Term} → i < n → u ≡ termAt terms i
+      → Written (12 * i) (termBytes u) m r
       → TermsWritten terms n l r (i + 1)
-  terms-next {r} low e = record { within = omega arith; kept = length-written e ∙ h .kept; bytes = next }
+  terms-next {r} low eu e = record { within = omega arith; kept = length-written e ∙ h .kept; bytes = next }
     where
       next : (ts : List Term) (rest : List ℕ) → length ts ≡ n → terms ≡ flat ts ++ rest
           → Written 0 (termsBytes (take (i + 1) ts)) l r
       next ts rest long f =
-          let t = getD ts i (0 · one) in
           let below : i < length ts = omega arith in
-          let here : length (take i ts) ≡ i = length-take-le i ts (omega arith) in
-          let apart = f ∙ ap (λ x. flat x ++ rest) (split-at ts i (0 · one) below) in
-          let wire = ap (λ x. getD x (2 * i) 0) apart ∙ wire-at (take i ts) rest t (drop (suc i) ts) i here in
-          let residue = ap (λ x. getD x (2 * i + 1) 0) apart ∙ residue-at (take i ts) rest t (drop (suc i) ts) i here in
-          let same = ap₂ (λ w k. termBytes (k · record { 0 = w })) wire residue in
-          let end : 12 * i ≡ 0 + length (termsBytes (take i ts)) = omega (arith, length-terms (take i ts)) in
-          rw (add-one i, take-suc ts i (0 · one) below, terms-snoc (take i ts) t)
-          (written-then (12 * i) end (h .bytes ts rest long f) (written-as same e))
+          let end : 12 * i ≡ 0 + length (termsBytes (take i ts)) =
+          omega (arith, length-terms (take i ts), length-take-le i ts (omega arith)) in
+          rw (add-one i, take-suc ts i none below, terms-snoc (take i ts) (getD ts i none))
+          (written-then (12 * i) end (h .bytes ts rest long f) (written-as (ap termBytes (eu ∙ term-front ts terms rest f i below)) e))
 
   pub terms-all : n ≤ i → (ts : List Term) (rest : List ℕ) → length ts ≡ n → terms ≡ flat ts ++ rest → Written 0 (termsBytes ts) l m
   terms-all high ts rest long f =

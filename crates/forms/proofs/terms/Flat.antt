@@ -1,12 +1,15 @@
 -- The numbers of a list of terms: two a term, one list behind the other where the terms are, and each term at its own
 -- place. By induction along the terms.
 use mathlib.Core.List.{List, [], _∷_, _++_, append-assoc}
-use mathlib.Core.Path.{_≡_, refl, ap, sym, _∙_}
+use mathlib.Core.Path.{_≡_, refl, ap, ap₂, sym, _∙_}
 use Prim.Native.Nat.{ℕ, _+_, _*_}
 use native.Mathlib.Omega.{arith}
 use lib.ListN.{getD, length, length-append, set}
 use lib.Seq.{getD-at, set-at}
-use Rattle.forms.specs.Terms.{flat}
+use Rattle.encoding.proofs.Written.{written-two}
+use Rattle.encoding.specs.Written.{Written}
+use Rattle.forms.specs.Rows.{_·_}
+use Rattle.forms.specs.Terms.{flat, termAt}
 use Rattle.forms.specs.declared.form.Term.{Term}
 
 pub flat-append : (xs ys : List Term) → flat (xs ++ ys) ≡ flat xs ++ flat ys
@@ -45,8 +48,11 @@ module _ (xs : List Term) (rest : List ℕ) where
         rw (split-at-wire t us, ← append-assoc (flat xs) (t .wire .0 ∷ []) (t .residue ∷ (flat us ++ rest)))
         (getD-at (flat xs ++ (t .wire .0 ∷ [])) (t .residue) (flat us ++ rest) 0 (2 * i + 1) (residue-place (t .wire .0)))
 
+    pub term-at : termAt (flat (xs ++ t ∷ us) ++ rest) i ≡ t
+    term-at = ap₂ (λ w k. k · record { 0 = w }) wire-at residue-at
+
     -- another term stored there
-    pub term-set : (s : Term)
+    term-set : (s : Term)
         → set (set (flat (xs ++ t ∷ us) ++ rest) (2 * i) (s .wire .0)) (2 * i + 1) (s .residue) ≡ flat (xs ++ s ∷ us) ++ rest
     term-set s =
         let w = s .wire .0 in
@@ -58,3 +64,8 @@ module _ (xs : List Term) (rest : List ℕ) where
         ∙ set-at (flat xs ++ (w ∷ [])) (t .residue) (flat us ++ rest) k (2 * i + 1) (residue-place w)
         ∙ append-assoc (flat xs) (w ∷ []) (k ∷ (flat us ++ rest))
         ∙ sym (split-at-wire s us)
+
+    pub term-written : (s : Term) {m : List ℕ} → Written (2 * i) (flat (s ∷ [])) (flat (xs ++ t ∷ us) ++ rest) m
+        → m ≡ flat (xs ++ s ∷ us) ++ rest
+    unfolding flat
+    term-written s h = h .left ∙ sym (written-two (2 * i) (s .wire .0) (s .residue) (flat (xs ++ t ∷ us) ++ rest) .left) ∙ term-set s

@@ -1,12 +1,11 @@
 -- Where a block's wires are what its 512 bits and the words that it begins with give, up to some word or round, its rows up to there hold,
 -- by the block's theorem. The rows of its bits hold where these are bits and the padding among them is the message's.
 use mathlib.Core.List.{List}
-use mathlib.Core.Logic.{by-cases}
 use mathlib.Core.Path.{_≡_, _∙_, ap, refl, subst, sym}
-use Prim.Native.Nat.{ℕ, _+_, _-_, _*_, _<_, _≤_, _^_}
-use native.Mathlib.Decide.{decLt}
+use Prim.Native.Nat.{ℕ, _+_, _-_, _*_, _/_, _%_, _<_, _≤_, _^_}
 use native.Mathlib.Omega.{arith}
-use lib.Dec.{lit<, lit≤}
+use borrow.Author.Tests.{ltb-false, ltb-true}
+use lib.Dec.{lit<, lit≤, ltb}
 use Rattle.assignment.specs.Assignment.{entry}
 use Rattle.assignment.specs.Bounded.{BelowPrime}
 use Rattle.block.proofs.exact.Block.{block-run, blockForms, expanded-hold, pairs-hold, rounds-hold}
@@ -17,29 +16,28 @@ use Rattle.block.specs.Steps.{blockRows, computedRows, rowsBeforeRound}
 use Rattle.block.specs.Wires.{expansionAt, expansionWidth, pairsAt, resultAt, roundsAt}
 use Rattle.block.specs.declared.step.Step.the-variants.{Message}
 use Rattle.circuit.proofs.exact.Frame.{block-row}
-use Rattle.circuit.proofs.exact.Messages.{message-run}
-use Rattle.circuit.specs.Circuit.{begins, beginsAt, formOf, messageBit, rowAt}
-use Rattle.circuit.specs.Circuits.{blockCount, contentForm, messageOf}
+use Rattle.circuit.specs.Circuit.{begins, beginsAt, formOf, messageBit, messageForm, rowAt}
+use Rattle.circuit.specs.Circuits.{blockCount, messageOf}
 use Rattle.circuit.specs.Places.{stateRows}
 use Rattle.circuit.specs.Wires.{blockFirst}
-use Rattle.circuit.specs.declared.circuits.Circuit.the-variants.{Axles, Record}
 use Rattle.circuit.specs.declared.circuits.Circuit.{Circuit}
 use Rattle.circuit.specs.declared.message.MessageSpan.{MessageSpan}
 use Rattle.encoding.proofs.Sequence.{beside-first, beside-then}
 use Rattle.encoding.specs.Sequence.{beside, grid}
 use Rattle.forms.proofs.exact.Runs.{Agree, Holds, Judged}
-use Rattle.forms.proofs.exact.Words.{bit-row}
+use Rattle.forms.proofs.exact.Words.{fixed-row}
+use Rattle.forms.proofs.shape.All.{of-cond}
 use Rattle.forms.specs.Rows.{Satisfied, rowOf}
 use Rattle.forms.specs.WordWires.{wordWires}
 use Rattle.forms.specs.declared.form.Form.{Form}
 use Rattle.satisfaction.proofs.Agreeing.{agrees-rows, agrees-then, bits-agree, bits-lt}
+use Rattle.satisfaction.proofs.Judging.{judged-bytes}
 use Rattle.satisfaction.proofs.Lowest.{lowest-all}
-use Rattle.satisfaction.specs.Agrees.{Agrees, BitsOfState, Padded, PastExpansion, to-end, to-round, to-word}
+use Rattle.satisfaction.specs.Agrees.{Agrees, BitsOfState, ContentHolds, Padded, PastExpansion, to-end, to-round, to-word}
 use Rattle.satisfaction.specs.Lowest.{lowest}
 use Rattle.satisfaction.specs.declared.rows_check.Verdict.the-variants.{AllSatisfied}
-use Rattle.sm3.proofs.Bounds.{Words}
-use Rattle.sm3.proofs.message.MessageBits.{message-content, message-padding}
-use Rattle.sm3.specs.Message.{blockBits, message}
+use Rattle.sm3.proofs.Bounds.{Words, message-lt}
+use Rattle.sm3.specs.Message.{message}
 use Rattle.sm3.specs.Sm3.{block, expansion, wordOf}
 use Rattle.sm3.specs.declared.state.State.{State}
 
@@ -63,14 +61,9 @@ past-few (to-word c few paired e) = omega arith
 past-few (to-round c few paired rounded e) = omega (arith, rowsBeforeRound-le c few)
 past-few (to-end paired rounded result e) = omega arith
 
--- a wire of the content that is a bit satisfies its row
-content-holds : (a : ℕ → ℕ) → Judged a → (C : Circuit) (w : ℕ) → a w < 2 → Satisfied a (rowOf (contentForm C (record { 0 = w })))
-content-holds a J (Record n) w bit = bit-row a J w .1 bit
-content-holds a J (Axles lower upper) w bit = bit-row a J w .1 bit
-
 module _ (bytes : List ℕ) (one : entry bytes 0 ≡ 1) (below : BelowPrime bytes) (C : Circuit) (i : ℕ) (l : i < blockCount C) where
   judged : Judged (entry bytes)
-  judged = record { one = one; below = below .each }
+  judged = judged-bytes one below
 
   abbrev F : ℕ
   F = blockFirst i
@@ -91,30 +84,27 @@ module _ (bytes : List ℕ) (one : entry bytes 0 ≡ 1) (below : BelowPrime byte
       subst (λ r. Satisfied (entry bytes) (rowAt C r)) row
       (subst (λ f. Satisfied (entry bytes) (rowOf f)) (sym (block-row C i (m + k) l (omega arith) ∙ forms k (omega arith))) (holds k (omega arith))))
 
+  pub message-passed : (m : MessageSpan) → m ≡ messageOf C i → Padded m i bytes → ContentHolds C m i bytes
+      → lowest (entry bytes) (rowAt C) first 512 ≡ AllSatisfied
+  unfolding grid formOf messageForm
+  message-passed m same padded content =
+      let none : first + 0 ≡ first = omega arith in
+      let row : (b : ℕ) → b < 512 → Satisfied (entry bytes) (rowOf (messageForm C m i b)) =
+      λ b h.
+      of-cond (λ f. Satisfied (entry bytes) (rowOf f)) (ltb (messageBit m i b) (m .bits)) (λ t. content .each b h (ltb-true _ _ t))
+      (λ t.
+      fixed-row (entry bytes) judged (F + b) (message (m .bits) (λ i. 0) (messageBit m i b))
+      (message-lt (m .bits) (λ i. 0) (λ i l. lit< tt) (messageBit m i b)) .1
+      (padded .each b h (ltb-false _ _ t))) in
+      subst (λ k. lowest (entry bytes) (rowAt C) k 512 ≡ AllSatisfied) none
+      (rows-passed 0 512 (grid 32 (formOf C i Message)) (lit≤ tt)
+      (λ k h. let place : 0 + k ≡ k = omega arith in ap (beside 512 _ _) place ∙ beside-first 512 _ _ k h)
+      (λ k h.
+      let bit : 32 * (k / 32) + k % 32 ≡ k = omega arith in
+      subst (λ (b : ℕ). Satisfied (entry bytes) (rowOf (messageForm C (messageOf C i) i b))) (sym bit)
+      (subst (λ (m : MessageSpan). Satisfied (entry bytes) (rowOf (messageForm C m i k))) same (row k h))))
+
   module _ (bits : (k : ℕ) → k < 512 → entry bytes (F + k) < 2) where
-    -- the bits of the message, as they stand on the block's wires
-    abbrev content : ℕ → ℕ
-    content k = entry bytes (F + (k - messageBit (messageOf C i) i 0))
-
-    content-at : (k : ℕ) → entry bytes (F + k) ≡ content (messageBit (messageOf C i) i k)
-    content-at k =
-        let bit : F + k ≡ F + (messageBit (messageOf C i) i k - messageBit (messageOf C i) i 0) = omega arith in
-        ap (entry bytes) bit
-
-    pub message-passed : Padded (messageOf C i) i bytes → lowest (entry bytes) (rowAt C) first 512 ≡ AllSatisfied
-    unfolding blockBits
-    message-passed padded =
-        let m : MessageSpan = messageOf C i in
-        let none : first + 0 ≡ first = omega arith in
-        subst (λ k. lowest (entry bytes) (rowAt C) k 512 ≡ AllSatisfied) none
-        (rows-passed 0 512 (grid 32 (formOf C i Message)) (lit≤ tt)
-        (λ k h. let place : 0 + k ≡ k = omega arith in ap (beside 512 _ _) place ∙ beside-first 512 _ _ k h)
-        (message-run (entry bytes) judged C i content
-        (λ k h in-content. (λ holds. content-at k, λ e. content-holds (entry bytes) judged C (F + k) (bits k h))) .1
-        (λ k h.
-        by-cases (decLt (messageBit m i k) (m .bits)) (λ in-content. content-at k ∙ sym (message-content (m .bits) content _ in-content))
-        (λ past. padded .each k h (omega arith) ∙ message-padding (m .bits) (λ j. 0) content _ (omega arith)))))
-
     module _ (v : State) (begun : BitsOfState (beginsAt (messageOf C i) i) v bytes) where
       abbrev words : List ℕ
       words = expansion (λ k. entry bytes (F + k)) 68

@@ -19,15 +19,16 @@ use Rattle.encoding.specs.Sequence.{grid}
 use Rattle.forms.proofs.exact.Runs.{Judged}
 use Rattle.forms.proofs.exact.Words.{equal-row}
 use Rattle.forms.specs.Rows.{Satisfied, rowOf}
+use Rattle.satisfaction.proofs.Judging.{judged-bytes}
 use Rattle.satisfaction.proofs.Lowest.{lowest-all}
 use Rattle.satisfaction.specs.Agrees.{Agrees}
 use Rattle.satisfaction.specs.Lowest.{lowest}
 use Rattle.satisfaction.specs.declared.rows_check.Verdict.the-variants.{AllSatisfied}
 use Rattle.sm3.specs.Sm3.{start}
 
-module _ (bytes : List ℕ) (one : entry bytes 0 ≡ 1) (below : BelowPrime bytes) (C : Circuit) where
+module _ (bytes : List ℕ) (one : entry bytes 0 ≡ 1) (below : BelowPrime bytes) (C : Circuit) (some : 0 < blockCount C) where
   judged : Judged (entry bytes)
-  judged = record { one = one; below = below .each }
+  judged = judged-bytes one below
 
   pub start-holds : Agrees startFirst 256 (stateWires start) bytes → lowest (entry bytes) (rowAt C) 0 stateRows ≡ AllSatisfied
   unfolding rowAt
@@ -35,7 +36,7 @@ module _ (bytes : List ℕ) (one : entry bytes 0 ≡ 1) (below : BelowPrime byte
       lowest-all (entry bytes) (rowAt C) 0 stateRows .1
       (λ k l h.
       let near : k < 256 = omega arith in
-      subst (λ f. Satisfied (entry bytes) (rowOf f)) (sym (start-row C k near)) (start-run (entry bytes) judged .1 (agrees .entries) k near))
+      subst (λ f. Satisfied (entry bytes) (rowOf f)) (sym (start-row C some k near)) (start-run (entry bytes) judged .1 (agrees .entries) k near))
 
   pub digest-holds : ((k : ℕ) → k < 256 → entry bytes (digestFirst + k) ≡ entry bytes (blockFirst (blockCount C - 1) + resultAt + k))
       → lowest (entry bytes) (rowAt C) (stateRows + blockRows * blockCount C) stateRows ≡ AllSatisfied
@@ -50,5 +51,5 @@ module _ (bytes : List ℕ) (one : entry bytes 0 ≡ 1) (below : BelowPrime byte
       let wire : digestFirst + 32 * (k / 32) + k % 32 ≡ digestFirst + k = omega arith in
       let from : F + resultAt + k ≡ resultFirst F (k / 32) + k % 32 = omega arith in
       subst (λ r. Satisfied (entry bytes) (rowAt C r)) row
-      (subst (λ f. Satisfied (entry bytes) (rowOf f)) (sym (digest-row C k (omega arith)))
+      (subst (λ f. Satisfied (entry bytes) (rowOf f)) (sym (digest-row C some k (omega arith)))
       (equal-row (entry bytes) judged _ _ .1 (ap (entry bytes) wire ∙ copied k (omega arith) ∙ ap (entry bytes) from))))

@@ -1,18 +1,15 @@
 -- A row as the check judges it. The buffer holds the terms of the row's form, without the zero ones and in the letters' order;
 -- their values are those of the row, where they stand sorted, and residues tell of it what its coefficients do.
-use mathlib.Core.List.{List}
+use mathlib.Core.List.{List, _++_}
 use mathlib.Core.Path.{_≡_, _∙_, ap, ap₂, subst, sym}
 use Prim.Native.Nat.{ℕ, _+_, _-_, _*_, _%_, _≤_, _<_}
 use native.Mathlib.Omega.{arith}
 use lib.Dec.{eqb}
-use lib.ListN.{length}
+use lib.ListN.{drop, length}
 use Rattle.assignment.specs.Assignment.{entry}
-use Rattle.assignment.specs.Bounded.{BelowPrime}
-use Rattle.block.specs.declared.place.Place.{Place}
 use Rattle.circuit.proofs.shape.Shape.{letters-within}
-use Rattle.circuit.specs.Circuit.{formAt, formOf, rowAt}
-use Rattle.circuit.specs.Circuits.{blockCount}
-use Rattle.circuit.specs.Places.{placeAt, rowCount}
+use Rattle.circuit.specs.Circuit.{formAt, rowAt}
+use Rattle.circuit.specs.Places.{rowCount}
 use Rattle.circuit.specs.Ranges.{Allowed}
 use Rattle.circuit.specs.Wires.{wireCount}
 use Rattle.circuit.specs.declared.circuits.Circuit.{Circuit}
@@ -20,18 +17,18 @@ use Rattle.encoding.proofs.Written.{length-written}
 use Rattle.field.specs.Field.{p}
 use Rattle.forms.proofs.exact.Signed.{rows-unaltered}
 use Rattle.forms.proofs.exact.Values.{value-nonzero, value-normal}
-use Rattle.forms.proofs.terms.FlatAll.{all-front}
+use Rattle.forms.proofs.terms.FlatAll.{all-front, term-front}
 use Rattle.forms.proofs.terms.WrittenTerms.{filled-front, filled-length}
-use Rattle.forms.specs.Rows
 use Rattle.forms.specs.Former.{formerHolds, formerValue}
-use Rattle.forms.specs.Rows.{holds, letters, nonzero, rowOf, normalForm}
-use Rattle.forms.specs.Terms.{Filled, termRoom, unsorted}
+use Rattle.forms.specs.Rows.{Row, holds, letters, nonzero, normalForm, rowOf, terms}
+use Rattle.forms.specs.Terms.{Filled, flat, termAt, termRoom, unsorted}
 use Rattle.forms.specs.declared.form.Form.{Form}
 use Rattle.forms.specs.declared.form.Term.{Term}
 use Rattle.forms.specs.declared.terms.Counts.{Counts}
-use Rattle.satisfaction.proofs.sums.RunningSum.{Value, judged-row}
-use Rattle.satisfaction.specs.Lent.{Lent}
+use Rattle.satisfaction.proofs.sums.TermByTerm.{judged, sums-next, sumsTo, worth}
+use Rattle.satisfaction.specs.Sums.{added}
 use Rattle.satisfaction.specs.Lowest.{lowest}
+use Rattle.satisfaction.specs.declared.sums.Sums.{Sums}
 
 -- the row of a form is satisfied where that of its letters is
 holds-letters : (e : ℕ → ℕ) (f : Form) → formerHolds e (unsorted f) ≡ holds e (rowOf f)
@@ -42,42 +39,48 @@ holds-letters e f =
     ap₂ eqb (ap₂ (λ x y. (x * y) % p) (same (row .A)) (same (row .B))) (ap (λ v. v % p) (same (row .C)))
     ∙ sym (rows-unaltered e (rowOf f))
 
--- Row k of a circuit at its place q, whose terms were filled in.
-module _ (C : Circuit) (k : ℕ) (q : Place) (at : q ≡ placeAt (blockCount C) k) (r : Counts) (before after : List ℕ)
-    (filled : Filled (unsorted (formOf C (q .block) (q .step) (q .index) (q .line))) r before after) where
-  held : Filled (unsorted (formAt C k)) r before after
-  unfolding formAt
-  held =
-      subst (λ (q : Place). Filled (unsorted (formOf C (q .block) (q .step) (q .index) (q .line))) r before after) at filled
+-- Row k of a circuit, whose terms were filled in.
+module _ (C : Circuit) (k : ℕ) {r : Counts} {before after : List ℕ} (filled : Filled (unsorted (formAt C k)) r before after) where
+  abbrev row : Row
+  row = unsorted (formAt C k)
 
-  -- no wire is past the last, and every residue is below p
-  pub lent : Allowed C → k < rowCount C → length before ≡ termRoom → (bytes : List ℕ) → length bytes ≡ 8 * wireCount C → BelowPrime bytes
-      → Lent (r .a + r .b + r .c) after bytes
-  lent allowed below room bytes size entries =
-      let row = unsorted (formAt C k) in
-      let fits : 2 * (r .a + r .b + r .c) ≤ length before = omega (arith, held .few) in
-      let inside =
-      all-front (λ u. (u .wire .0 < wireCount C) × (u .residue < p)) (Rows.terms row) (letters-within C allowed k below) after _
-      (filled-front held fits) in
-      let count = filled-length held in
-      record {
-        room = omega (arith, length-written (held .written));
-        wires = λ t h. omega (arith, inside t (omega arith) .0);
-        residues = λ t h. inside t (omega arith) .1;
-        entries = entries;
-      }
-
-  -- what the values of its parts tell is told of the row
-  pub judged : (bytes : List ℕ) (a b c : ℕ) → 2 * (r .a + r .b + r .c) ≤ length after → Value bytes after 0 (r .a) a
-      → Value bytes after (r .a) (r .a + r .b) b → Value bytes after (r .a + r .b) (r .a + r .b + r .c) c
-      → eqb ((a * b) % p) c ≡ holds (entry bytes) (rowAt C k)
+  -- what the sums of all its terms tell is told of it
+  pub row-judged : (e : ℕ → ℕ) {s : Sums} (t : ℕ) → s ≡ sumsTo e row t → t ≡ r .a + r .b + r .c
+      → eqb ((s .a * s .b) % p) (s .c) ≡ holds e (rowAt C k)
   unfolding rowAt
-  judged bytes a b c room va vb vc =
-      judged-row bytes after before (unsorted (formAt C k)) r held room a b c va vb vc ∙ holds-letters (entry bytes) (formAt C k)
+  row-judged e t es et = rw es (judged e row t (omega (arith, filled-length filled))) ∙ holds-letters e (formAt C k)
 
--- before a turn at row k, whose place is q: of the rows from `from` on and below `to`, all below row k hold
-pub record Turn (C : Circuit) (bytes : List ℕ) (from to : ℕ) (terms : List ℕ) (q : Place) (k : ℕ) : Type 0 where
-  pub below : k < to
+  -- its term t
+  module _ (room : length before ≡ termRoom) (t : ℕ) (l : t < r .a + r .b + r .c) where
+    inside : t < length (terms row)
+    inside = omega (arith, filled-length filled)
+
+    pub term-room : 2 * t + 2 ≤ length after
+    term-room = omega (arith, filled .few, length-written (filled .written))
+
+    front : after ≡ flat (terms row) ++ drop (2 * (r .a + r .b + r .c)) before
+    front = filled-front filled (omega (arith, filled .few))
+
+    -- its wire is not past the last, and its residue is below p
+    pub term-within : Allowed C → k < rowCount C → {u : Term} → u ≡ termAt after t → (u .wire .0 < wireCount C) × (u .residue < p)
+    term-within allowed below e =
+        let Within : Term → Type 0 = λ u. (u .wire .0 < wireCount C) × (u .residue < p) in
+        subst Within (sym e) (all-front (terms row) after _ front t inside Within (letters-within C allowed k below))
+
+    -- with what it adds, the sums are those of one term more
+    pub term-added : (e : ℕ → ℕ) {s s′ : Sums} {u : Term} {x : ℕ} → s ≡ sumsTo e row t → u ≡ termAt after t → x ≡ worth e u
+        → s′ ≡ added s r t x → s′ ≡ sumsTo e row (t + 1)
+    term-added e es eu ex es′ =
+        es′
+        ∙ ap₂ (λ s x. added s r t x) es (ex ∙ ap (worth e) (eu ∙ term-front (terms row) after _ front t inside))
+        ∙ sums-next e row r (filled .a) (filled .b) t inside
+
+-- before a turn at row k all rows below it hold
+pub record Turn (C : Circuit) (bytes terms : List ℕ) (k : ℕ) : Type 0 where
+  pub within : k ≤ rowCount C
   pub room : length terms ≡ termRoom
-  pub at : q ≡ placeAt (blockCount C) k
-  pub lower : lowest (entry bytes) (rowAt C) from (to - from) ≡ lowest (entry bytes) (rowAt C) k (to - k)
+  pub lower : lowest (entry bytes) (rowAt C) 0 (rowCount C) ≡ lowest (entry bytes) (rowAt C) k (rowCount C - k)
+
+-- .. and where k is not their count, there is a row k
+pub row-below : {C : Circuit} {bytes terms : List ℕ} {k end : ℕ} → Turn C bytes terms k → (k ≡ end → ⊥) → end ≡ rowCount C → k < rowCount C
+row-below turn other e = omega (arith, turn .within)

@@ -19,6 +19,7 @@ ghost use Rattle.sm3.specs.Sm3.{rotatedConstant};
 ghost use Rattle.sm3.specs.declared.state.State.{State};
 use crate::agreement::expansion::expanded_words_agree;
 use crate::agreement::expansion::pairs_agree;
+use crate::agreement::message::content_holds;
 use crate::agreement::message::padding_agrees;
 use crate::agreement::rounds::rounds_agree;
 use crate::agreement::wires::state_agrees;
@@ -97,8 +98,8 @@ fn computed_rows_passed(
     EXPANSION_ROWS + rows_past_expansion(assignment, first, v, x, t)
 }
 
-// How many rows of block i hold, from the first on, because of what its wires are. The rows of its 512 bits hold where these are bits
-// and the padding among them is the message's.
+// How many rows of block i hold, from the first on, because of what its wires are. The rows of its 512 bits hold where these are bits,
+// the padding among them is the message's, and the content's rows hold.
 pub fn rows_passed(circuit: Circuit, i: u64, assignment: &[u8], t: &[u32; 64]) -> u64
     requires { ⌜ Allowed circuit × (length (now assignment) ≡ 8 * wireCount circuit) × (entry (now assignment) 0 ≡ 1) × BelowPrime (now assignment) × (now t ≡ tab 64 rotatedConstant) × (i < blockCount circuit) ⌝ }
     ensures { λ r. ⌜ (r ≤ blockRows) × (lowest (entry (now (assignment .entry))) (rowAt circuit) (stateRows + blockRows * i) r ≡ AllSatisfied) ⌝ }
@@ -107,7 +108,11 @@ pub fn rows_passed(circuit: Circuit, i: u64, assignment: &[u8], t: &[u32; 64]) -
     if !read_words(assignment, block_first(i), &mut x, 16) {
         return 0;
     }
-    if !padding_agrees(assignment, message_of(circuit, i), i) {
+    let message = message_of(circuit, i);
+    if !padding_agrees(assignment, message, i) {
+        return 0;
+    }
+    if !content_holds(circuit, message, i, assignment) {
         return 0;
     }
     MESSAGE_ROWS + computed_rows_passed(circuit, i, assignment, &mut x, t)

@@ -1,10 +1,10 @@
 -- In each arm the step is known, so its ranges are, and the definition is the form that the arm's call ensures.
 use mathlib.Core.Path.{_≡_, _∙_, ap, subst}
 use Prim.Native.Nat.{_+_, _*_}
+use native.Mathlib.Omega.{arith}
 use borrow.Author.Needs.{needs}
 use Rattle.circuit.proofs.step_form.PlaceStep.{block-below, from-first, in-step}
-use Rattle.circuit.specs.Circuit.{begins, beginsAt, formOf, messageBit, messageForm}
-use Rattle.circuit.specs.Wires.{blockFirst}
+use Rattle.circuit.specs.Circuit.{begins, beginsAt, formOf, messageForm}
 use Rattle.circuit.specs.declared.message.MessageSpan.{MessageSpan}
 use Rattle.forms.specs.Terms.{Fit}
 use Rattle.circuit.proofs.step_form.form_of.Statement.{statement}
@@ -28,8 +28,18 @@ start-form-requires c κs = in-step _ _ (c .before .before .before .before .befo
 enum-told-2 : tie.Need-enum-told-2
 enum-told-2 c = search needs
 
+mul-message-form : tie.Need-mul-message-form
+mul-message-form c = let line = in-step _ _ (c .before .before .before .before .before .pre) (c .enum-told2 .given .1) in omega arith
+
+add-message-form : tie.Need-add-message-form
+add-message-form c = let line = in-step _ _ (c .before .before .before .before .before .pre) (c .enum-told2 .given .1) in omega arith
+
 message-form-requires : tie.Need-message-form-requires
-message-form-requires c κs = (c .before .before .before .message-of .ensures .1, in-step _ _ (c .before .before .before .before .before .pre) (c .enum-told2 .given .1))
+message-form-requires c κs =
+    let start = c .before .before .before .before .before in
+    let message = c .before .before .before .message-of .ensures in
+    let line = in-step _ _ (start .pre) (c .enum-told2 .given .1) in
+    (start .pre .0, start .pre .1 .block, message .0, message .1, omega arith)
 
 enum-told-3 : tie.Need-enum-told-3
 enum-told-3 c = search needs
@@ -153,7 +163,7 @@ returns-2 c =
     let b = 32 * a .place .index + a .place .line in
     rw (c .before .enum-told2 .given .1)
     (subst
-    (λ (m : MessageSpan). (c .message-form .result ≡ messageForm (a .circuit) m (messageBit m i b) (blockFirst i + b)) × Fit (c .message-form .result))
+    (λ (m : MessageSpan). (c .message-form .result ≡ messageForm (a .circuit) m i b) × Fit (c .message-form .result))
     (span .message-of .ensures .0)
     (c .message-form .ensures))
 
@@ -261,6 +271,8 @@ form-of-spec =
     enum-told
     start-form-requires
     enum-told-2
+    mul-message-form
+    add-message-form
     message-form-requires
     enum-told-3
     q-form-requires

@@ -1,7 +1,10 @@
 -- Turn i writes term i behind the bytes of those before it.
-use Prim.Native.Nat.{_-_}
+use mathlib.Core.Path.{subst, sym}
+use Prim.Native.Nat.{_-_, _<_}
 use borrow.Author.Needs.{needs}
+use Rattle.field.specs.Field.{p}
 use Rattle.forms.proofs.term_bytes.TermBytes.{TermsWritten, terms-all, terms-next, terms-none}
+use Rattle.forms.specs.declared.form.Term.{Term}
 use Rattle.forms.proofs.term_bytes.put_terms.Statement.{statement}
 use Rattle.forms.proofs.term_bytes.put_terms.Tie as tie
 
@@ -17,32 +20,14 @@ loop-holds c = terms-none _ _ _
 mul-put-term : tie.Need-mul-put-term Inv-loop μ-loop
 mul-put-term c = search needs
 
-mul-t10 : tie.Need-mul-t10 Inv-loop μ-loop
-mul-t10 c = search needs
-
-mul-t11 : tie.Need-mul-t11 Inv-loop μ-loop
-mul-t11 c = search needs
-
-shared-slice-read-t13 : tie.Need-shared-slice-read-t13 Inv-loop μ-loop
-shared-slice-read-t13 c = search needs
-
-mul-t15 : tie.Need-mul-t15 Inv-loop μ-loop
-mul-t15 c = search needs
-
-add-t16 : tie.Need-add-t16 Inv-loop μ-loop
-add-t16 c = search needs
-
-mul-t17 : tie.Need-mul-t17 Inv-loop μ-loop
-mul-t17 c = search needs
-
-shared-slice-read-t19 : tie.Need-shared-slice-read-t19 Inv-loop μ-loop
-shared-slice-read-t19 c = search needs
+term-at-requires : tie.Need-term-at-requires Inv-loop μ-loop
+term-at-requires c κs = search needs
 
 put-term-requires : tie.Need-put-term-requires Inv-loop μ-loop
 put-term-requires c κs =
-    let turn = c .before .before .before in
-    let start = turn .before .before .before .before in
-    (search needs, start .pre .2 _ (turn .loop-test .taken))
+    let entered = c .before .before in
+    let residue = entered .before .before .before .before .pre .2 _ (entered .loop-test .taken) in
+    (search needs, subst (λ (u : Term). u .residue < p) (sym (c .term-at .ensures)) residue)
 
 add-i : tie.Need-add-i Inv-loop μ-loop
 add-i c = search needs
@@ -52,9 +37,9 @@ loop-less c = search needs
 
 loop-again : tie.Need-loop-again Inv-loop μ-loop
 loop-again c =
-    let head = c .before .before .before .before .before .before .before in
     let put = c .before .before in
-    terms-next (head .loop .inv) (c .before .before .before .before .before .before .loop-test .taken) (put .put-term .ensures)
+    let entered = put .before .before .before in
+    terms-next (entered .before .loop .inv) (entered .loop-test .taken) (put .before .term-at .ensures) (put .put-term .ensures)
 
 same-length : tie.Need-same-length Inv-loop μ-loop
 same-length c = c .before .loop .inv .kept
@@ -70,13 +55,7 @@ put-terms-spec =
     μ-loop
     loop-holds
     mul-put-term
-    mul-t10
-    mul-t11
-    shared-slice-read-t13
-    mul-t15
-    add-t16
-    mul-t17
-    shared-slice-read-t19
+    term-at-requires
     put-term-requires
     add-i
     loop-less

@@ -31,7 +31,7 @@ at-place c =
 form-of-requires : tie.Need-form-of-requires
 form-of-requires c κs =
     let start = c .before .before .before in
-    (start .pre .1, subst (InCircuit _) (sym (at-place c)) (in-circuit _ _ (start .pre .2)))
+    (start .pre .1, subst (InCircuit _) (sym (at-place c)) (in-circuit (start .args .circuit) (start .pre .1) _ (start .pre .2)))
 
 put-where-requires : tie.Need-put-where-requires
 put-where-requires c κs = search needs

@@ -1,11 +1,14 @@
 -- After i turns the lines of the first i terms are written, each of at most 66 bytes.
 use mathlib.Core.List.{List}
-use mathlib.Core.Path.{_≡_}
-use Prim.Native.Nat.{ℕ, _+_, _-_, _*_, _≤_}
+use mathlib.Core.Path.{_≡_, ap, subst, sym}
+use Prim.Native.Nat.{ℕ, _+_, _-_, _*_, _<_, _≤_}
 use native.Mathlib.Omega.{arith}
 use borrow.Author.Needs.{needs}
-use lib.ListN.{getD, length}
+use lib.ListN.{length}
+use Rattle.field.specs.Field.{p}
 use Rattle.forms.specs.Coefficients.{signed}
+use Rattle.forms.specs.Terms.{termAt}
+use Rattle.forms.specs.declared.form.Term.{Term}
 use Rattle.text.proofs.Put.{put-none, put-then}
 use Rattle.text.specs.Put.{Put}
 use Rattle.listing.specs.Held.{heldLines}
@@ -13,6 +16,10 @@ use Rattle.listing.specs.Rows.{lineRoom, termLine}
 use Rattle.listing.proofs.Lines.{lines-more, lines-none}
 use Rattle.listing.proofs.term.put_part.Statement.{statement}
 use Rattle.listing.proofs.term.put_part.Tie as tie
+
+-- the same bytes
+put-as : {l : List ℕ} {at : ℕ} {xs ys l′ : List ℕ} {end : ℕ} → xs ≡ ys → Put l at xs l′ end → Put l at ys l′ end
+put-as {l} {at} {xs} {ys} {l′} {end} e h = subst (λ zs. Put l at zs l′ end) e h
 
 abbrev Inv-loop : tie.InvT-loop
 Inv-loop out₀ at row part terms from many end₀ i₀ out end i =
@@ -26,33 +33,19 @@ loop-holds c =
     let args = c .before .before .args in
     (search needs, search needs, search needs, rw (lines-none _ (args .from)) (put-none (args .out .now) (args .at)))
 
-add-k : tie.Need-add-k Inv-loop μ-loop
-add-k c = search needs
+add-term-at : tie.Need-add-term-at Inv-loop μ-loop
+add-term-at c = search needs
 
-mul-k : tie.Need-mul-k Inv-loop μ-loop
-mul-k c = search needs
-
-mul-put-term-line : tie.Need-mul-put-term-line Inv-loop μ-loop
-mul-put-term-line c = search needs
-
-shared-slice-read-put-term-line : tie.Need-shared-slice-read-put-term-line Inv-loop μ-loop
-shared-slice-read-put-term-line c = search needs
-
-add-put-term-line : tie.Need-add-put-term-line Inv-loop μ-loop
-add-put-term-line c = search needs
-
-mul-put-term-line-2 : tie.Need-mul-put-term-line-2 Inv-loop μ-loop
-mul-put-term-line-2 c = search needs
-
-shared-slice-read-put-term-line-2 : tie.Need-shared-slice-read-put-term-line-2 Inv-loop μ-loop
-shared-slice-read-put-term-line-2 c = search needs
+term-at-requires : tie.Need-term-at-requires Inv-loop μ-loop
+term-at-requires c κs = search needs
 
 put-term-line-requires : tie.Need-put-term-line-requires Inv-loop μ-loop
 put-term-line-requires c κs =
-    let turn = c .before .before .before in
-    let args = turn .before .before .before .before in
-    let low = turn .loop-test .taken in
-    (search needs, args .pre .2 _ (omega arith))
+    let turn = c .before .before in
+    let start = turn .before .before .before .before in
+    let inside : start .args .from + turn .before .loop .i < start .args .from + start .args .many = omega (arith, turn .loop-test .taken) in
+    let residue = start .pre .2 _ inside in
+    (search needs, subst (λ (u : Term). u .residue < p) (sym (c .term-at .ensures)) residue)
 
 add-i : tie.Need-add-i Inv-loop μ-loop
 add-i c = search needs
@@ -63,16 +56,14 @@ loop-less c = search needs
 loop-again : tie.Need-loop-again Inv-loop μ-loop
 loop-again c =
     let put = c .before .before in
-    let turn = put .before .before .before .before in
-    let at-loop = turn .before in
+    let at-loop = put .before .before .before .before in
     let args = at-loop .before .before .before .args in
-    let i = at-loop .loop .i in
-    let held = args .terms .now in
-    let next : ℕ → List ℕ = λ k. termLine (args .row .0) (args .part) (getD held (2 * k) 0) (signed (getD held (2 * k + 1) 0)) in (
+    let line : Term → List ℕ = λ u. termLine (args .row .0) (args .part) (u .wire .0) (signed (u .residue)) in (
       search needs,
       omega (arith, put .put-term-line .ensures .1),
       search needs,
-      rw (lines-more next (args .from) i) (put-then (at-loop .loop .inv .3) (put .put-term-line .ensures .0)),
+      rw (lines-more (λ k. line (termAt (args .terms .now) k)) (args .from) (at-loop .loop .i))
+          (put-then (at-loop .loop .inv .3) (put-as (ap line (put .before .term-at .ensures)) (put .put-term-line .ensures .0))),
     )
 
 same-length : tie.Need-same-length Inv-loop μ-loop
@@ -90,13 +81,8 @@ put-part-spec =
     Inv-loop
     μ-loop
     loop-holds
-    add-k
-    mul-k
-    mul-put-term-line
-    shared-slice-read-put-term-line
-    add-put-term-line
-    mul-put-term-line-2
-    shared-slice-read-put-term-line-2
+    add-term-at
+    term-at-requires
     put-term-line-requires
     add-i
     loop-less

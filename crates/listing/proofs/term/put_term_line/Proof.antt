@@ -30,7 +30,7 @@ put-coefficient-requires : tie.Need-put-coefficient-requires
 put-coefficient-requires c κs =
     let second = c .before .before .before in
     let kept = simp length-set at (length-put (second .put-field2 .ensures .0)) in
-    let start = second .before .before .before .before .before .before .before in
+    let start = second .before .before .before .before .before .before .before .before in
     (omega (arith, kept), start .pre .1)
 
 returns : tie.Need-returns
@@ -39,7 +39,7 @@ returns c =
     let third = c .before .before in
     let second = third .before .before .before .before in
     let first = second .before .before .before .before in
-    let part = first .before .before .before .args .part in (
+    let part = first .before .before .before .before .args .part in (
       put-then
           (put-then (put-then (first .put-field .ensures .0) (put-two _ (first .put-field .result) part comma))
           (second .put-field2 .ensures .0))

@@ -7,7 +7,7 @@ use Rattle.block.specs.Steps.{blockRows}
 use Rattle.circuit.proofs.place.PlaceRange.{few-blocks}
 use Rattle.circuit.specs.Places.{stateRows}
 use Rattle.circuit.specs.Wires.{wireCount}
-use Rattle.satisfaction.proofs.Agreeing.{are-bits, padded-at, words-at}
+use Rattle.satisfaction.proofs.Agreeing.{are-bits, words-at}
 use Rattle.satisfaction.proofs.Lowest.{lowest-none, lowest-then}
 use Rattle.satisfaction.proofs.blocks_check.BlockHolds.{message-passed}
 use Rattle.satisfaction.proofs.agreement.block_wires.rows_passed.Statement.{statement}
@@ -41,36 +41,57 @@ padding-agrees-requires c κs =
 returns-2 : tie.Need-returns-2
 returns-2 c = (omega arith, lowest-none _ _ _)
 
+content-holds-requires : tie.Need-content-holds-requires
+content-holds-requires c κs =
+    let told = c .before .before in
+    let read = told .before .before .before in
+    let p = read .before .before .before .before .pre in
+    let words = read .read-words .ensures (not-false _ (told .before .if1 .left)) in (
+      p .0,
+      p .1,
+      p .2,
+      p .3,
+      p .5,
+      told .message-of .ensures .0,
+      told .message-of .ensures .1,
+      record { each = are-bits (words-at (read .before .before .block-first .ensures .0) words) },
+    )
+
+returns-3 : tie.Need-returns-3
+returns-3 c = (omega arith, lowest-none _ _ _)
+
 computed-rows-passed-requires : tie.Need-computed-rows-passed-requires
 computed-rows-passed-requires c κs =
-    let p = c .before .before .before .before .before .before .before .before .before .before .pre in
-    let read = c .before .before .before .before .before .before .read-words in
-    let words = read .ensures (not-false _ (c .before .before .before .before .if1 .left)) in (
+    let told = c .before .before .before .before .before in
+    let read = told .before .before .before in
+    let p = read .before .before .before .before .pre in
+    let words = read .read-words .ensures (not-false _ (told .before .if1 .left)) in (
       p .0,
       p .1,
       p .2,
       p .3,
       p .4,
       p .5,
-      omega (arith, read .kept),
-      words-at (c .before .before .before .before .before .before .before .before .block-first .ensures .0) words,
+      omega (arith, read .read-words .kept),
+      words-at (read .before .before .block-first .ensures .0) words,
     )
 
 add-result : tie.Need-add-result
 add-result c = search needs
 
-returns-3 : tie.Need-returns-3
-returns-3 c =
-    let start = c .before .before .before .before .before .before .before .before .before .before .before in
+returns-4 : tie.Need-returns-4
+returns-4 c =
+    let held = c .before .before .before in
+    let padded = held .before .before in
+    let told = padded .before in
+    let start = told .before .before .before .before .before .before .before in
     let p = start .pre in
-    let words = c .before .before .before .before .before .before .before .read-words .ensures (not-false _ (c .before .before .before .before .before .if1 .left)) in
-    let padded = c .before .before .before .padding-agrees .ensures (not-false _ (c .before .before .if2 .left)) in
     let passed = c .computed-rows-passed .ensures in (
       omega (arith, passed .0),
       lowest-then _ _ (stateRows + blockRows * start .args .i) 512 _
-          (message-passed _ (p .2) (p .3) (start .args .circuit) (start .args .i) (p .5)
-          (are-bits (words-at (c .before .before .before .before .before .before .before .before .before .block-first .ensures .0) words))
-          (padded-at (c .before .before .before .before .message-of .ensures .0) padded))
+          (message-passed _ (p .2) (p .3) (start .args .circuit) (start .args .i) (p .5) _ (told .message-of .ensures .0)
+          (padded .padding-agrees .ensures (not-false _ (held .before .if2 .left)))
+          (held .content-holds .ensures (not-false _ (c .before .before .if3 .left))))
           (passed .1),
     )
 
@@ -85,6 +106,8 @@ rows-passed-spec =
     message-of-requires
     padding-agrees-requires
     returns-2
+    content-holds-requires
+    returns-3
     computed-rows-passed-requires
     add-result
-    returns-3)
+    returns-4)

@@ -1,11 +1,11 @@
--- The two stores go behind the first n terms.
+-- The two stores are the numbers of the term.
 use native.Mathlib.Omega.{arith}
 use borrow.Author.Needs.{needs}
 use lib.ListN.{length-set}
 use Rattle.encoding.proofs.Written.{written-two}
 use Rattle.forms.specs.Terms.{flat}
-use Rattle.forms.proofs.terms.push.Statement.{statement}
-use Rattle.forms.proofs.terms.push.Tie as tie
+use Rattle.forms.proofs.buffer.set_term.Statement.{statement}
+use Rattle.forms.proofs.buffer.set_term.Tie as tie
 
 mul-terms : tie.Need-mul-terms
 mul-terms c = search needs
@@ -35,8 +35,8 @@ returns : tie.Need-returns
 unfolding flat
 returns c = written-two _ _ _ _
 
-pub push-spec : {M : Type 1} → statement M
-push-spec =
+pub set-term-spec : {M : Type 1} → statement M
+set-term-spec =
     tie.close
     (tie.spec
     mul-terms
