@@ -10,7 +10,7 @@ use Rattle.encoding.specs.Sequence.{beside}
 use Rattle.forms.specs.WordWires.{wordWires}
 use Rattle.sm3.proofs.expansion.FirstWords.{W-expanded, getD-expansion, mixed-take, take-expansion}
 use Rattle.sm3.proofs.rounds.FirstRounds.{rounds-next}
-use Rattle.sm3.specs.Sm3.{P1, expanded, expansion, mixed, pairWord, roundOf, rounds}
+use Rattle.sm3.specs.Sm3.{P1, expanded, expansion, mixed, wPrime, roundOf, rounds}
 use Rattle.sm3.specs.declared.state.State.{State}
 
 -- q, P1(q) and Wj are those of the whole expansion
@@ -26,6 +26,6 @@ expanded-wires bits x j {q} {p} {r} h l e eq ep er =
     cc
 
 -- A to H after one round more
-pub one-round : (x : List ℕ) (v : State) (j : ℕ) {s s′ : State} → s′ ≡ roundOf j (getD x j 0) (pairWord x j) s → s ≡ rounds x v j
+pub one-round : (x : List ℕ) (v : State) (j : ℕ) {s s′ : State} → s′ ≡ roundOf j (getD x j 0) (wPrime x j) s → s ≡ rounds x v j
     → s′ ≡ rounds x v (j + 1)
-one-round x v j e d = e ∙ ap (roundOf j (getD x j 0) (pairWord x j)) d ∙ sym (rounds-next x v j)
+one-round x v j e d = e ∙ ap (roundOf j (getD x j 0) (wPrime x j)) d ∙ sym (rounds-next x v j)

@@ -1,4 +1,4 @@
-// The wires of a block's expansion, and of the pairs W'0 to W'63.
+// The wires of a block's expansion, and of the words W'0 to W'63.
 ghost use mathlib.Core.Path.{_≡_};
 ghost use Prim.Native.Nat.{ℕ, _+_, _*_, _<_, _≤_};
 ghost use lib.ListN.{length, take};
@@ -7,7 +7,7 @@ ghost use Rattle.block.specs.BlockWires.{expansionWires};
 ghost use Rattle.block.specs.Wires.{expansionWidth};
 ghost use Rattle.encoding.specs.Sequence.{beside, grid};
 ghost use Rattle.forms.specs.WordWires.{wordWires};
-ghost use Rattle.sm3.specs.Sm3.{P1, expanded, expansion, mixed, pairWord};
+ghost use Rattle.sm3.specs.Sm3.{P1, expanded, expansion, mixed, wPrime};
 use crate::values::expansion_values;
 use crate::wires::put_word;
 use block::wire::EXPANSION_WIDTH;
@@ -37,9 +37,9 @@ pub fn put_expanded_words(out: &mut [u8], w: WireNumber, x: &mut [u32; 68])
 }
 
 // W'0 to W'63 on the 2,048 wires from w on.
-pub fn put_pairs(out: &mut [u8], w: WireNumber, x: &[u32; 68])
+pub fn put_w_primes(out: &mut [u8], w: WireNumber, x: &[u32; 68])
     requires { ⌜ 8 * (w .0 + 2048) ≤ length (now out) ⌝ }
-    ensures { λ _. ⌜ Wrote (w .0) 2048 (grid 32 (λ (j : ℕ). wordWires (pairWord (now (x .entry)) j))) (now (out .entry)) (now (out .exit)) ⌝ }
+    ensures { λ _. ⌜ Wrote (w .0) 2048 (grid 32 (λ (j : ℕ). wordWires (wPrime (now (x .entry)) j))) (now (out .entry)) (now (out .exit)) ⌝ }
 {
     for j in 0..64 {
         put_word(out, WireNumber(w.0 + 32 * j as u64), x[j] ^ x[j + 4]);

@@ -8,7 +8,7 @@ ghost use Rattle.block.specs.BlockWires.{roundWires};
 ghost use Rattle.block.specs.Wires.{roundWidth};
 ghost use Rattle.encoding.specs.Sequence.{beside, grid, tab};
 ghost use Rattle.forms.specs.WordWires.{sumWires, wordWires};
-ghost use Rattle.sm3.specs.Sm3.{pairWord, rotatedConstant, roundOf, rounds};
+ghost use Rattle.sm3.specs.Sm3.{wPrime, rotatedConstant, roundOf, rounds};
 use crate::values::RoundValues;
 use crate::values::after_round;
 use crate::values::round_values;
@@ -58,7 +58,7 @@ fn put_round(
     t: &[u32; 64],
 ) -> State
     requires { ⌜ (j < 64) × (now t ≡ tab 64 rotatedConstant) × (8 * (w .0 + roundWidth) ≤ length (now out)) ⌝ }
-    ensures { λ r. ⌜ r ≡ roundOf j (getD (now (x .entry)) j 0) (pairWord (now (x .entry)) j) s ⌝ }
+    ensures { λ r. ⌜ r ≡ roundOf j (getD (now (x .entry)) j 0) (wPrime (now (x .entry)) j) s ⌝ }
     ensures { λ r. ⌜ Wrote (w .0) roundWidth (roundWires (now (x .entry)) j s) (now (out .entry)) (now (out .exit)) ⌝ }
 {
     let r = round_values(s, j, x, t);

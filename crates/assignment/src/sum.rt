@@ -2,7 +2,7 @@
 ghost use mathlib.Core.Path.{_≡_};
 ghost use Prim.Native.Nat.{_+_};
 ghost use Rattle.assignment.specs.Sum.{IsSum};
-ghost use Rattle.sm3.specs.Sm3.{dropped};
+ghost use Rattle.sm3.specs.Sm3.{truncated};
 use sm3::words::sum_of_3;
 use sm3::words::sum_of_4;
 
@@ -14,7 +14,7 @@ pub struct Sum {
 
 // What the hash keeps of a whole sum, and the rest.
 fn parted(whole: u64, word: u32) -> Sum
-    requires { ⌜ word ≡ dropped whole ⌝ }
+    requires { ⌜ word ≡ truncated whole ⌝ }
     ensures { λ r. ⌜ IsSum r whole ⌝ }
 {
     Sum {

@@ -4,7 +4,7 @@ ghost use Prim.Native.Nat.{ℕ, _<_, _≤_};
 ghost use lib.ListN.{getD};
 ghost use Rattle.assignment.specs.Values.{IsExpansion, IsRound};
 ghost use Rattle.encoding.specs.Sequence.{tab};
-ghost use Rattle.sm3.specs.Sm3.{FF, GG, pairWord, rotatedConstant, roundOf};
+ghost use Rattle.sm3.specs.Sm3.{FF, GG, wPrime, rotatedConstant, roundOf};
 use crate::sum::Sum;
 use crate::sum::add_3;
 use crate::sum::add_4;
@@ -68,9 +68,9 @@ fn gg_of(j: usize, x: u32, y: u32, z: u32) -> u32
 }
 
 // Round j on s with T rotated, Wj and W'j.
-fn values_of(s: State, j: usize, t: u32, word: u32, pair: u32) -> RoundValues
+fn values_of(s: State, j: usize, t: u32, word: u32, primed: u32) -> RoundValues
     requires { ⌜ t ≡ rotatedConstant j ⌝ }
-    ensures { λ r. ⌜ IsRound r j word pair s ⌝ }
+    ensures { λ r. ⌜ IsRound r j word primed s ⌝ }
 {
     let a12 = rotate_left(s.a, 12);
     let u = add_3(a12, s.e, t);
@@ -78,7 +78,7 @@ fn values_of(s: State, j: usize, t: u32, word: u32, pair: u32) -> RoundValues
     let ss2 = ss1 ^ a12;
     let ff = ff_of(j, s.a, s.b, s.c);
     let gg = gg_of(j, s.e, s.f, s.g);
-    let tt1 = add_4(ff, s.d, ss2, pair);
+    let tt1 = add_4(ff, s.d, ss2, primed);
     let tt2 = add_4(gg, s.h, ss1, word);
     RoundValues {
         u,
@@ -94,14 +94,14 @@ fn values_of(s: State, j: usize, t: u32, word: u32, pair: u32) -> RoundValues
 // Round j on s with the expansion x.
 pub fn round_values(s: State, j: usize, x: &[u32; 68], t: &[u32; 64]) -> RoundValues
     requires { ⌜ (j < 64) × (now t ≡ tab 64 rotatedConstant) ⌝ }
-    ensures { λ r. ⌜ IsRound r j (getD (now (x .entry)) j 0) (pairWord (now (x .entry)) j) s ⌝ }
+    ensures { λ r. ⌜ IsRound r j (getD (now (x .entry)) j 0) (wPrime (now (x .entry)) j) s ⌝ }
 {
     values_of(s, j, t[j], x[j], x[j] ^ x[j + 4])
 }
 
 // A to H after a round on s that computed r.
 pub fn after_round(s: State, r: RoundValues) -> State
-    ensures { λ v. ⌜ ((j word pair : ℕ) → IsRound r j word pair s → v ≡ roundOf j word pair s) ⌝ }
+    ensures { λ v. ⌜ ((j word w′ : ℕ) → IsRound r j word w′ s → v ≡ roundOf j word w′ s) ⌝ }
 {
     let tt1 = r.tt1;
     State {

@@ -27,11 +27,11 @@ roundWidth = 230
 abbrev pub expansionAt : ℕ
 expansionAt = 512
 
-abbrev pub pairsAt : ℕ
-pairsAt = expansionAt + 52 * expansionWidth
+abbrev pub wPrimesAt : ℕ
+wPrimesAt = expansionAt + 52 * expansionWidth
 
 abbrev pub roundsAt : ℕ
-roundsAt = pairsAt + 64 * 32
+roundsAt = wPrimesAt + 64 * 32
 
 abbrev pub resultAt : ℕ
 resultAt = roundsAt + 64 * roundWidth
@@ -48,7 +48,7 @@ wFirst F j = cond (ltb j 16) (F + 32 * j) (qFirst F j + 64)
 
 -- "W'0 to W'63"
 abbrev pub wPrimeFirst : ℕ → ℕ → ℕ
-wPrimeFirst F j = F + pairsAt + 32 * j
+wPrimeFirst F j = F + wPrimesAt + 32 * j
 
 -- "for each round: u and its 2 carries, SS2, FF, GG, TT1 and 2 carries, TT2 and 2 carries, P0(TT2)": where each begins
 abbrev pub ss2At : ℕ

@@ -6,7 +6,7 @@ ghost use Rattle.block.specs.declared.step.Step.the-variants.{P1, Q, W, 
 ghost use Rattle.forms.specs.Terms.{Fit};
 use crate::wire::expanded_word;
 use crate::wire::expansion_first;
-use crate::wire::pair_word;
+use crate::wire::w_prime_word;
 use forms::form::Form;
 use forms::position::rotated;
 use forms::position::word_from;
@@ -56,6 +56,6 @@ pub fn w_prime_form(first: WireNumber, j: u64, l: u64) -> Form
 {
     let x = expanded_word(first, j);
     let y = expanded_word(first, j + 4);
-    let r = pair_word(first, j);
+    let r = w_prime_word(first, j);
     xor_of_two(x, y, r, l)
 }

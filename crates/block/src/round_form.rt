@@ -6,10 +6,10 @@ ghost use Rattle.block.specs.declared.step.Step.the-variants.{Ff, Gg, P0
 ghost use Rattle.forms.specs.Terms.{Fit};
 use crate::wire;
 use crate::wire::expanded_word;
-use crate::wire::pair_word;
 use crate::wire::round_first;
 use crate::wire::round_word;
 use crate::wire::ss1_word;
+use crate::wire::w_prime_word;
 use crate::wire::word_before;
 use forms::form::Addends;
 use forms::form::Form;
@@ -103,7 +103,7 @@ pub fn tt1_form(first: WireNumber, begin: WireNumber, j: u64, l: u64) -> Form
         y: word_before(first, begin, 3, j),
         four: true,
         z: round_word(first, j, wire::SS2),
-        t: pair_word(first, j),
+        t: w_prime_word(first, j),
     };
     Form::Sum {
         addends,

@@ -19,7 +19,7 @@ pub const EXPANSION: u64 = 512;
 pub const EXPANSION_WIDTH: u64 = 96;
 
 // Where the words W'j begin in a block.
-pub const PAIRS: u64 = 5504;
+pub const W_PRIMES: u64 = 5504;
 
 // Where the rounds begin in a block.
 pub const ROUNDS: u64 = 7552;
@@ -64,11 +64,11 @@ pub fn expanded_word(first: WireNumber, j: u64) -> WordPosition
 }
 
 // W'j.
-pub fn pair_word(first: WireNumber, j: u64) -> WordPosition
+pub fn w_prime_word(first: WireNumber, j: u64) -> WordPosition
     requires { ⌜ BlockAt (first .0) × (j < 64) ⌝ }
     ensures { λ r. ⌜ (r ≡ standing (wPrimeFirst (first .0) j)) × Within r ⌝ }
 {
-    word_from(WireNumber(first.0 + PAIRS + 32 * j))
+    word_from(WireNumber(first.0 + W_PRIMES + 32 * j))
 }
 
 // The first wire of round j, which is that of u.

@@ -1,7 +1,7 @@
 -- The wires of a word and of a sum, from their values (document 01, "Wires").
 use Prim.Native.Nat.{ℕ, _-_, _/_, _%_, _^_}
 use Rattle.encoding.specs.Sequence.{beside}
-use Rattle.sm3.specs.Sm3.{dropped}
+use Rattle.sm3.specs.Sm3.{truncated}
 use Rattle.sm3.specs.Words.{bit}
 
 -- "A word's wires run from the highest bit": the 32 wires of a word
@@ -14,7 +14,7 @@ carryWires s i = s / 2 ^ 32 / 2 ^ (1 - i) % 2
 
 -- a sum's word and its 2 carries
 unfoldable pub sumWires : ℕ → ℕ → ℕ
-sumWires s = beside 32 (wordWires (dropped s)) (carryWires s)
+sumWires s = beside 32 (wordWires (truncated s)) (carryWires s)
 
 -- "4 bits each", "7 bits each", "highest bit first" (document 02, request 5): the n wires of a number
 unfoldable pub numberWires : ℕ → ℕ → ℕ → ℕ

@@ -7,7 +7,7 @@ use lib.ListN.{getD}
 use Rattle.assignment.specs.Assignment.{entry}
 use Rattle.block.specs.BlockWires.{roundWires, stateWires}
 use Rattle.block.specs.Steps.{rowsBeforeRound}
-use Rattle.block.specs.Wires.{pairsAt, resultAt, roundWidth, roundsAt}
+use Rattle.block.specs.Wires.{wPrimesAt, resultAt, roundWidth, roundsAt}
 use Rattle.circuit.specs.Circuit.{messageBit}
 use Rattle.circuit.specs.Circuits.{contentForm}
 use Rattle.circuit.specs.Wires.{blockFirst}
@@ -18,7 +18,7 @@ use Rattle.encoding.specs.Sequence.{grid}
 use Rattle.forms.specs.Rows.{Satisfied, rowOf}
 use Rattle.forms.specs.WordWires.{wordWires}
 use Rattle.sm3.specs.Message.{message}
-use Rattle.sm3.specs.Sm3.{pairWord, rounds, wordOf, xorState}
+use Rattle.sm3.specs.Sm3.{wPrime, rounds, wordOf, xorState}
 use Rattle.sm3.specs.declared.state.State.{State}
 
 -- the n wires from w on have the first values of s
@@ -45,12 +45,12 @@ pub record BitsOfState (w : ℕ) (s : State) (bytes : List ℕ) : Type 0 where
 -- How far the wires of the block whose first wire is F agree, past its expansion, with what the words x of the expansion and the words v
 -- that it begins with make them, in rows: up to a word W', up to a round, or to the end.
 pub data PastExpansion (F : ℕ) (x : List ℕ) (v : State) (bytes : List ℕ) (rows : ℕ) : Type 0 where
-  to-word : (c : ℕ) → c ≤ 64 → Agrees (F + pairsAt) (c * 32) (grid 32 (λ j. wordWires (pairWord x j))) bytes → rows ≡ 32 * c
+  to-word : (c : ℕ) → c ≤ 64 → Agrees (F + wPrimesAt) (c * 32) (grid 32 (λ j. wordWires (wPrime x j))) bytes → rows ≡ 32 * c
       → PastExpansion F x v bytes rows
-  to-round : (c : ℕ) → c ≤ 64 → Agrees (F + pairsAt) 2048 (grid 32 (λ j. wordWires (pairWord x j))) bytes
+  to-round : (c : ℕ) → c ≤ 64 → Agrees (F + wPrimesAt) 2048 (grid 32 (λ j. wordWires (wPrime x j))) bytes
       → Agrees (F + roundsAt) (c * roundWidth) (grid roundWidth (λ j. roundWires x j (rounds x v j))) bytes → rows ≡ 2048 + rowsBeforeRound c
       → PastExpansion F x v bytes rows
-  to-end : Agrees (F + pairsAt) 2048 (grid 32 (λ j. wordWires (pairWord x j))) bytes
+  to-end : Agrees (F + wPrimesAt) 2048 (grid 32 (λ j. wordWires (wPrime x j))) bytes
       → Agrees (F + roundsAt) (64 * roundWidth) (grid roundWidth (λ j. roundWires x j (rounds x v j))) bytes
       → Agrees (F + resultAt) 256 (stateWires (xorState (rounds x v 64) v)) bytes → rows ≡ 2048 + 19520 + 256
       → PastExpansion F x v bytes rows

@@ -11,7 +11,7 @@ use lib.Dec.{eqb, lit<, ltb}
 use lib.ListN.{getD}
 use Rattle.limits.specs.Blocks.{blocks}
 use Rattle.sm3.specs.Message.{chainingValue, message}
-use Rattle.sm3.specs.Sm3.{_⊕_, FF, GG, P0, P1, block, blockWord, choice, constant, dropped, expanded, expansion, extended, majority, mixed, nextWord, pairWord, roundOf, rounds, start, rotatedConstant, xorState}
+use Rattle.sm3.specs.Sm3.{_⊕_, FF, GG, P0, P1, block, blockWord, choice, constant, truncated, expanded, expansion, extended, majority, mixed, nextWord, wPrime, roundOf, rounds, start, rotatedConstant, xorState}
 use Rattle.sm3.specs.Words.{rotateLeft}
 use Rattle.sm3.specs.declared.state.State.{State}
 use Rattle.sm3.proofs.Rotation.{rotate-lt}
@@ -22,8 +22,8 @@ cond-lt : (t : Bool) (x y m : ℕ) → (t ≡ true → x < m) → (t ≡ false �
 cond-lt true x y m hx hy = hx refl
 cond-lt false x y m hx hy = hy refl
 
-pub dropped-lt : (s : ℕ) → dropped s < 2 ^ 32
-dropped-lt s = omega arith
+pub truncated-lt : (s : ℕ) → truncated s < 2 ^ 32
+truncated-lt s = omega arith
 
 xor-3-lt : (x y z : ℕ) → x < 2 ^ 32 → y < 2 ^ 32 → z < 2 ^ 32 → x ⊕ y ⊕ z < 2 ^ 32
 xor-3-lt x y z hx hy hz = xor-lt 32 (x ⊕ y) z (xor-lt 32 x y hx hy) hz
@@ -123,15 +123,15 @@ start-words =
       h = lit< tt;
     }
 
-round-words : (j word pair : ℕ) (s : State) → Words s → Words (roundOf j word pair s)
+round-words : (j word w′ : ℕ) (s : State) → Words s → Words (roundOf j word w′ s)
 unfolding roundOf
-round-words j word pair s w =
+round-words j word w′ s w =
     record {
-      a = dropped-lt _;
+      a = truncated-lt _;
       b = w .a;
       c = rotate-lt 9 (s .b) (omega arith) (w .b);
       d = w .c;
-      e = P0-lt _ (dropped-lt _);
+      e = P0-lt _ (truncated-lt _);
       f = w .e;
       g = rotate-lt 19 (s .f) (omega arith) (w .f);
       h = w .g;
@@ -140,7 +140,7 @@ round-words j word pair s w =
 rounds-words : (w : List ℕ) (v : State) → Words v → (j : ℕ) → Words (rounds w v j)
 unfolding rounds
 rounds-words w v hv zero = hv
-rounds-words w v hv (suc j) = round-words j (getD w j 0) (pairWord w j) (rounds w v j) (rounds-words w v hv j)
+rounds-words w v hv (suc j) = round-words j (getD w j 0) (wPrime w j) (rounds w v j) (rounds-words w v hv j)
 
 xor-words : (s v : State) → Words s → Words v → Words (xorState s v)
 unfolding xorState

@@ -16,8 +16,8 @@ abbrev pub _⊕_ : ℕ → ℕ → ℕ
 x ⊕ y = bitXor x y
 
 -- "Additions drop what passes 2^32"
-abbrev pub dropped : ℕ → ℕ
-dropped s = s % 2 ^ 32
+abbrev pub truncated : ℕ → ℕ
+truncated s = s % 2 ^ 32
 
 -- "Start words (hexadecimal): 7380166f .."
 abbrev pub start : State
@@ -76,8 +76,8 @@ expansion bits zero = []
 expansion bits (suc j) = extended bits j (expansion bits j)
 
 -- "W'j = Wj xor W(j+4)"
-unfoldable pub pairWord : List ℕ → ℕ → ℕ
-pairWord w j = getD w j 0 ⊕ getD w (j + 4) 0
+unfoldable pub wPrime : List ℕ → ℕ → ℕ
+wPrime w j = getD w j 0 ⊕ getD w (j + 4) 0
 
 -- Round j on A to H.
 
@@ -101,15 +101,15 @@ sumU j s = rotateLeft 12 (s .a) + s .e + rotatedConstant j
 
 -- "SS1 = u<<<7"
 unfoldable pub SS1 : ℕ → State → ℕ
-SS1 j s = rotateLeft 7 (dropped (sumU j s))
+SS1 j s = rotateLeft 7 (truncated (sumU j s))
 
 -- "SS2 = SS1 xor A<<<12"
 unfoldable pub SS2 : ℕ → State → ℕ
 SS2 j s = SS1 j s ⊕ rotateLeft 12 (s .a)
 
--- "TT1 = FF + D + SS2 + W'j", with nothing dropped; `pair` is W'j
+-- "TT1 = FF + D + SS2 + W'j", with nothing dropped; `w′` is W'j
 unfoldable pub sumTT1 : ℕ → ℕ → State → ℕ
-sumTT1 j pair s = FF j (s .a) (s .b) (s .c) + s .d + SS2 j s + pair
+sumTT1 j w′ s = FF j (s .a) (s .b) (s .c) + s .d + SS2 j s + w′
 
 -- "TT2 = GG + H + SS1 + Wj", with nothing dropped; `word` is Wj
 unfoldable pub sumTT2 : ℕ → ℕ → State → ℕ
@@ -117,13 +117,13 @@ sumTT2 j word s = GG j (s .e) (s .f) (s .g) + s .h + SS1 j s + word
 
 -- "Then D = C, C = B<<<9, B = A, A = TT1, H = G, G = F<<<19, F = E, E = P0(TT2)"
 unfoldable pub roundOf : ℕ → ℕ → ℕ → State → State
-roundOf j word pair s =
+roundOf j word w′ s =
     record {
-      a = dropped (sumTT1 j pair s);
+      a = truncated (sumTT1 j w′ s);
       b = s .a;
       c = rotateLeft 9 (s .b);
       d = s .c;
-      e = P0 (dropped (sumTT2 j word s));
+      e = P0 (truncated (sumTT2 j word s));
       f = s .e;
       g = rotateLeft 19 (s .f);
       h = s .g;
@@ -132,7 +132,7 @@ roundOf j word pair s =
 -- A to H before round j of a block with the expansion w that begins with the words v
 unfoldable pub rounds : List ℕ → State → ℕ → State
 rounds w v zero = v
-rounds w v (suc j) = roundOf j (getD w j 0) (pairWord w j) (rounds w v j)
+rounds w v (suc j) = roundOf j (getD w j 0) (wPrime w j) (rounds w v j)
 
 -- two states word by word
 unfoldable pub xorState : State → State → State

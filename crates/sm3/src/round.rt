@@ -39,12 +39,12 @@ pub fn round(v: State, s: State, j: usize, bytes: &[u8], w: &mut [u32; 68], t: &
         w[j],
     );
     w[j + 4] = next_word(bytes, w, j + 4);
-    let pair = w[j] ^ w[j + 4];
+    let w_prime = w[j] ^ w[j + 4];
     let tt1 = sum_of_4(
         ff_or_gg(j, s.a, s.b, s.c, majority_of(s.a, s.b, s.c)),
         s.d,
         ss1 ^ a12,
-        pair,
+        w_prime,
     );
     State {
         a: tt1,

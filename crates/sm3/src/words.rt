@@ -2,7 +2,7 @@
 ghost use mathlib.Core.Path.{_≡_};
 ghost use Prim.Native.Nat.{_+_, _^_, _<_};
 ghost use Rattle.sm3.specs.Words.{rotateLeft};
-ghost use Rattle.sm3.specs.Sm3.{P0, P1, majority, choice, dropped};
+ghost use Rattle.sm3.specs.Sm3.{P0, P1, majority, choice, truncated};
 
 // x rotated left by k bits.
 pub fn rotate_left(x: u32, k: u32) -> u32
@@ -42,14 +42,14 @@ pub fn choice_of(x: u32, y: u32, z: u32) -> u32
 
 // The sum of three words, without what passes 2^32.
 pub fn sum_of_3(x: u32, y: u32, z: u32) -> u32
-    ensures { λ r. ⌜ r ≡ dropped (x + y + z) ⌝ }
+    ensures { λ r. ⌜ r ≡ truncated (x + y + z) ⌝ }
 {
     std::num::wrapping_add_u32(std::num::wrapping_add_u32(x, y), z)
 }
 
 // The sum of four words, without what passes 2^32.
 pub fn sum_of_4(x: u32, y: u32, z: u32, t: u32) -> u32
-    ensures { λ r. ⌜ r ≡ dropped (x + y + z + t) ⌝ }
+    ensures { λ r. ⌜ r ≡ truncated (x + y + z + t) ⌝ }
 {
     std::num::wrapping_add_u32(sum_of_3(x, y, z), t)
 }

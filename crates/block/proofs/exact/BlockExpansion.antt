@@ -13,7 +13,7 @@ use lib.Dec.{lit<}
 use lib.ListN.{getD}
 use Rattle.block.specs.BlockWires.{expansionWires}
 use Rattle.block.specs.StepForms.{p1Form, qForm, wForm, wPrimeForm, word}
-use Rattle.block.specs.Wires.{expansionAt, expansionWidth, p1First, pairsAt, qFirst, wFirst, wPrimeFirst}
+use Rattle.block.specs.Wires.{expansionAt, expansionWidth, p1First, wPrimesAt, qFirst, wFirst, wPrimeFirst}
 use Rattle.encoding.proofs.Sequence.{each-add}
 use Rattle.encoding.specs.Sequence.{beside, grid}
 use Rattle.forms.proofs.exact.Carries.{Carries, Makes, carries-rotated, carries-word, makes-xor-three, makes-xor-two, word-then}
@@ -26,7 +26,7 @@ use Rattle.forms.specs.declared.form.Form.{Form}
 use Rattle.sm3.proofs.Bounds.{expansion-lt}
 use Rattle.sm3.proofs.WordBits.{bit-number}
 use Rattle.sm3.proofs.expansion.FirstWords.{getD-block, getD-expanded}
-use Rattle.sm3.specs.Sm3.{P1, blockWord, expanded, expansion, mixed, pairWord}
+use Rattle.sm3.specs.Sm3.{P1, blockWord, expanded, expansion, mixed, wPrime}
 
 -- the rows of word j: q, P1(q), Wj
 unfoldable pub expansionForms : ℕ → ℕ → ℕ → Form
@@ -112,15 +112,15 @@ module _ (a : ℕ → ℕ) (J : Judged a) (F : ℕ) (b : ℕ → ℕ) where
     words-carried e = words 52 (λ i l. agree-at a _ _ expansionWidth _ (sym (q-first F i)) (agree-row a (F + expansionAt) 52 expansionWidth _ e i l))
 
 module _ (a : ℕ → ℕ) (J : Judged a) (F : ℕ) (w : List ℕ) (words : (j : ℕ) → j < 68 → Carries a (word F j) (getD w j 0)) where
-  makes-pair : (j : ℕ) → j < 64 → Makes a 32 (wPrimeForm F j) (wPrimeFirst F j) (pairWord w j)
-  unfolding wPrimeForm pairWord
-  makes-pair j l = makes-xor-two a J (words j (omega arith)) (words (j + 4) (omega arith)) (wPrimeFirst F j)
+  makes-w-prime : (j : ℕ) → j < 64 → Makes a 32 (wPrimeForm F j) (wPrimeFirst F j) (wPrime w j)
+  unfolding wPrimeForm wPrime
+  makes-w-prime j l = makes-xor-two a J (words j (omega arith)) (words (j + 4) (omega arith)) (wPrimeFirst F j)
 
   -- the first c words
-  pub pairs-run : (c : ℕ) → c ≤ 64
-      → (Holds a (c * 32) (grid 32 (wPrimeForm F)) ↔ Agree a (F + pairsAt) (c * 32) (grid 32 (λ j. wordWires (pairWord w j))))
-  pairs-run c m = each a (F + pairsAt) c 32 32 _ _ (λ j l earlier. makes-pair j (omega arith) .run)
+  pub w-primes-run : (c : ℕ) → c ≤ 64
+      → (Holds a (c * 32) (grid 32 (wPrimeForm F)) ↔ Agree a (F + wPrimesAt) (c * 32) (grid 32 (λ j. wordWires (wPrime w j))))
+  w-primes-run c m = each a (F + wPrimesAt) c 32 32 _ _ (λ j l earlier. makes-w-prime j (omega arith) .run)
 
-  pub pairs-carried : Agree a (F + pairsAt) (64 * 32) (grid 32 (λ j. wordWires (pairWord w j)))
-      → (j : ℕ) → j < 64 → Carries a (standing (wPrimeFirst F j)) (pairWord w j)
-  pairs-carried e j l = carries-word a J (makes-pair j l) (agree-row a (F + pairsAt) 64 32 _ e j l)
+  pub w-primes-carried : Agree a (F + wPrimesAt) (64 * 32) (grid 32 (λ j. wordWires (wPrime w j)))
+      → (j : ℕ) → j < 64 → Carries a (standing (wPrimeFirst F j)) (wPrime w j)
+  w-primes-carried e j l = carries-word a J (makes-w-prime j l) (agree-row a (F + wPrimesAt) 64 32 _ e j l)

@@ -22,14 +22,14 @@ use Rattle.block.specs.declared.step.Step.the-variants.{Gg}
 use Rattle.encoding.proofs.Regroup.{beside-grid}
 use Rattle.encoding.proofs.Sequence.{each-add}
 use Rattle.encoding.specs.Sequence.{beside, grid}
-use Rattle.forms.proofs.exact.Carries.{Carries, Makes, carries-dropped, carries-rotated, carries-word, makes-ff, makes-gg, makes-xor-three, makes-xor-two, sum-four-run, sum-then, sum-two-run, word-then}
+use Rattle.forms.proofs.exact.Carries.{Carries, Makes, carries-truncated, carries-rotated, carries-word, makes-ff, makes-gg, makes-xor-three, makes-xor-two, sum-four-run, sum-then, sum-two-run, word-then}
 use Rattle.forms.proofs.exact.Parts.{agree-first, agree-past, agree-row, each-at, then-at}
 use Rattle.forms.proofs.exact.Runs.{Agree, Holds, Judged, each}
 use Rattle.forms.specs.Positions.{standing}
 use Rattle.forms.specs.WordWires.{sumWires}
 use Rattle.forms.specs.declared.form.Form.{Form}
 use Rattle.sm3.proofs.Bounds.{rotatedConstant-lt}
-use Rattle.sm3.specs.Sm3.{FF, GG, P0, SS1, SS2, dropped, pairWord, roundOf, rounds, sumTT1, sumTT2, sumU, rotatedConstant}
+use Rattle.sm3.specs.Sm3.{FF, GG, P0, SS1, SS2, truncated, wPrime, roundOf, rounds, sumTT1, sumTT2, sumU, rotatedConstant}
 use Rattle.sm3.specs.declared.state.State.{State}
 
 -- the rows of round j, where A to H stand at s
@@ -55,12 +55,12 @@ rowsBeforeRound-le c m =
     by-cases (decLt c 16) (λ few. rw (lt-ltb c 16 few) (omega arith)) (λ many. rw (le-ltb c 16 (omega arith)) (omega arith))
 
 module _ (a : ℕ → ℕ) (J : Judged a) (F : ℕ) (w : List ℕ) (j : ℕ) (cw : Carries a (word F j) (getD w j 0))
-    (cp : Carries a (standing (wPrimeFirst F j)) (pairWord w j)) (s : StatePosition) (S : State) (c : CarriesState a s S) where
+    (cp : Carries a (standing (wPrimeFirst F j)) (wPrime w j)) (s : StatePosition) (S : State) (c : CarriesState a s S) where
   u-run : Holds a 35 (uForm F s j) ↔ Agree a (uFirst F j) 34 (sumWires (sumU j S))
   unfolding uForm sumU
   u-run = sum-two-run a J (carries-rotated a J 12 (lit< tt) (c .a)) (c .e) (rotatedConstant j) (uFirst F j) (rotatedConstant-lt j)
 
-  carries-ss1 : Carries a (standing (uFirst F j)) (dropped (sumU j S)) → Carries a (ss1 F j) (SS1 j S)
+  carries-ss1 : Carries a (standing (uFirst F j)) (truncated (sumU j S)) → Carries a (ss1 F j) (SS1 j S)
   unfolding SS1
   carries-ss1 cu = carries-rotated a J 7 (lit< tt) cu
 
@@ -77,7 +77,7 @@ module _ (a : ℕ → ℕ) (J : Judged a) (F : ℕ) (w : List ℕ) (j : ℕ) (cw
   makes-GG = makes-gg a J (c .e) (c .f) (c .g) (ltb j 16) (ggFirst F j)
 
   tt1-run : Carries a (standing (ss2First F j)) (SS2 j S) → Carries a (standing (ffFirst F j)) (FF j (S .a) (S .b) (S .c))
-      → (Holds a 35 (tt1Form F s j) ↔ Agree a (tt1First F j) 34 (sumWires (sumTT1 j (pairWord w j) S)))
+      → (Holds a 35 (tt1Form F s j) ↔ Agree a (tt1First F j) 34 (sumWires (sumTT1 j (wPrime w j) S)))
   unfolding tt1Form sumTT1
   tt1-run c2 cf = sum-four-run a J cf (c .d) c2 cp (tt1First F j)
 
@@ -110,7 +110,7 @@ module _ (a : ℕ → ℕ) (J : Judged a) (F : ℕ) (w : List ℕ) (j : ℕ) (cw
       sum-then a J (tt2First F j) (p0First F j) 35 64 32 _ _ _ _ (omega arith) (tt2-run c1 cg) (λ ct. makes-p0 ct .run)))))))
 
   -- where A to H stand after the round
-  moves : Agree a (uFirst F j) roundWidth (roundWires w j S) → CarriesState a (moved F j s) (roundOf j (getD w j 0) (pairWord w j) S)
+  moves : Agree a (uFirst F j) roundWidth (roundWires w j S) → CarriesState a (moved F j s) (roundOf j (getD w j 0) (wPrime w j) S)
   unfolding roundWires moved roundOf
   moves agree =
       let after-u = agree-past a (uFirst F j) (ss2First F j) 34 196 _ _ refl agree in
@@ -119,9 +119,9 @@ module _ (a : ℕ → ℕ) (J : Judged a) (F : ℕ) (w : List ℕ) (j : ℕ) (cw
       let after-gg = agree-past a (ggFirst F j) (tt1First F j) 32 100 _ _ (omega arith) after-ff in
       let after-tt1 = agree-past a (tt1First F j) (tt2First F j) 34 66 _ _ (omega arith) after-gg in
       let after-tt2 = agree-past a (tt2First F j) (p0First F j) 34 32 _ _ (omega arith) after-tt1 in
-      let ct = carries-dropped a J (tt2First F j) _ (agree-first a (tt2First F j) 34 32 _ _ after-tt1) in
+      let ct = carries-truncated a J (tt2First F j) _ (agree-first a (tt2First F j) 34 32 _ _ after-tt1) in
       record {
-        a = carries-dropped a J (tt1First F j) _ (agree-first a (tt1First F j) 34 66 _ _ after-gg);
+        a = carries-truncated a J (tt1First F j) _ (agree-first a (tt1First F j) 34 66 _ _ after-gg);
         b = c .a;
         c = carries-rotated a J 9 (lit< tt) (c .b);
         d = c .c;
@@ -132,7 +132,7 @@ module _ (a : ℕ → ℕ) (J : Judged a) (F : ℕ) (w : List ℕ) (j : ℕ) (cw
       }
 
 module _ (a : ℕ → ℕ) (J : Judged a) (F : ℕ) (w : List ℕ) (words : (j : ℕ) → j < 68 → Carries a (word F j) (getD w j 0))
-    (pairs : (j : ℕ) → j < 64 → Carries a (standing (wPrimeFirst F j)) (pairWord w j))
+    (wPrimes : (j : ℕ) → j < 64 → Carries a (standing (wPrimeFirst F j)) (wPrime w j))
     (v : StatePosition) (B : State) (begun : CarriesState a v B) where
   -- A to H are carried before round j, where the wires of the earlier rounds agree
   rounds-carried : (j : ℕ) → j ≤ 64 → ((i : ℕ) → i < j → Agree a (uFirst F i) roundWidth (roundWires w i (rounds w B i)))
@@ -140,7 +140,7 @@ module _ (a : ℕ → ℕ) (J : Judged a) (F : ℕ) (w : List ℕ) (words : (j :
   unfolding stands rounds
   rounds-carried zero l e = begun
   rounds-carried (suc j) l e =
-      moves a J F w j (words j (omega arith)) (pairs j l) (stands F v j) (rounds w B j)
+      moves a J F w j (words j (omega arith)) (wPrimes j l) (stands F v j) (rounds w B j)
       (rounds-carried j (omega arith) (λ i k. e i (omega arith))) (e j (omega arith))
 
   -- round j after the earlier ones
@@ -149,7 +149,7 @@ module _ (a : ℕ → ℕ) (J : Judged a) (F : ℕ) (w : List ℕ) (words : (j :
       → (Holds a (35 + (32 + (64 + (g + 134)))) (roundForms F (stands F v j) j)
       ↔ Agree a (uFirst F j) roundWidth (roundWires w j (rounds w B j)))
   round-given j l earlier =
-      round-run a J F w j (words j (omega arith)) (pairs j l) (stands F v j) (rounds w B j) (rounds-carried j (omega arith) earlier)
+      round-run a J F w j (words j (omega arith)) (wPrimes j l) (stands F v j) (rounds w B j) (rounds-carried j (omega arith) earlier)
 
   -- the first c of the rounds 0 to 15
   early-run : (c : ℕ) → c ≤ 16

@@ -17,9 +17,9 @@ use Rattle.forms.specs.WordWires.{sumWires, wordWires}
 use Rattle.forms.specs.declared.form.Form.the-variants.{XorOfThree, Majority}
 use Rattle.forms.specs.declared.form.Form.{Form}
 use Rattle.forms.specs.declared.position.WordPosition.{WordPosition}
-use Rattle.sm3.proofs.Bounds.{choice-lt, dropped-lt, majority-lt}
+use Rattle.sm3.proofs.Bounds.{choice-lt, truncated-lt, majority-lt}
 use Rattle.sm3.proofs.Rotation.{rotate-lt}
-use Rattle.sm3.specs.Sm3.{choice, dropped, majority, _⊕_}
+use Rattle.sm3.specs.Sm3.{choice, truncated, majority, _⊕_}
 use Rattle.sm3.specs.Words.{rotateLeft}
 
 pub record Carries (a : ℕ → ℕ) (x : WordPosition) (X : ℕ) : Type 0 where
@@ -42,8 +42,8 @@ module _ (a : ℕ → ℕ) (J : Judged a) where
   pub carries-word : {n : ℕ} {f : ℕ → Form} {w X : ℕ} → Makes a n f w X → Agree a w 32 (wordWires X) → Carries a (standing w) X
   carries-word {n} {f} {w} {X} m e = record { below = m .below; reads = reads-standing a J w X e }
 
-  pub carries-dropped : (w s : ℕ) → Agree a w 34 (sumWires s) → Carries a (standing w) (dropped s)
-  carries-dropped w s e = record { below = dropped-lt s; reads = reads-sum a J w s e }
+  pub carries-truncated : (w s : ℕ) → Agree a w 34 (sumWires s) → Carries a (standing w) (truncated s)
+  carries-truncated w s e = record { below = truncated-lt s; reads = reads-sum a J w s e }
 
   -- a word's rows and then those that follow, at u, which may use that the word is carried
   pub word-then : {n : ℕ} {f : ℕ → Form} {w X : ℕ} (u m m′ : ℕ) (g : ℕ → Form) (t : ℕ → ℕ) → w + 32 ≡ u → Makes a n f w X
@@ -54,10 +54,10 @@ module _ (a : ℕ → ℕ) (J : Judged a) where
 
   -- .. and a sum's rows
   pub sum-then : (w u n m m′ s : ℕ) (f g : ℕ → Form) (t : ℕ → ℕ) → w + 34 ≡ u → (Holds a n f ↔ Agree a w 34 (sumWires s))
-      → (Carries a (standing w) (dropped s) → (Holds a m g ↔ Agree a u m′ t))
+      → (Carries a (standing w) (truncated s) → (Holds a m g ↔ Agree a u m′ t))
       → (Holds a (n + m) (beside n f g) ↔ Agree a w (34 + m′) (beside 34 (sumWires s) t))
   sum-then w u n m m′ s f g t e sum rest =
-      then-at a w u n m 34 m′ f g (sumWires s) t e sum (λ h. rest (carries-dropped w s h))
+      then-at a w u n m 34 m′ f g (sumWires s) t e sum (λ h. rest (carries-truncated w s h))
 
   module _ {x y : WordPosition} {X Y : ℕ} (cx : Carries a x X) (cy : Carries a y Y) where
     pub makes-xor-two : (r : ℕ) → Makes a 32 (xorOfTwo x y (standing r)) r (X ⊕ Y)

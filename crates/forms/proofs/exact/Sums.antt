@@ -26,7 +26,7 @@ use Rattle.forms.specs.declared.position.WordPosition.{WordPosition}
 use Rattle.refusal.specs.declared.numbers.WireNumber.{WireNumber}
 use Rattle.sm3.proofs.Bits.{bit-lt}
 use Rattle.sm3.proofs.WordBits.{bit-number, number-bits}
-use Rattle.sm3.specs.Sm3.{dropped}
+use Rattle.sm3.specs.Sm3.{truncated}
 use Rattle.sm3.specs.Words.{bit}
 
 -- the 2 carries after a word's 32 wires, and what all 34 write
@@ -53,7 +53,7 @@ module _ (b : ℕ → ℕ) (bits : Each 34 (λ k. b k < 2)) where
       let low : number 32 b < 2 ^ 32 = number-lt 32 b word-bits in
       let word : s % 2 ^ 32 ≡ number 32 b = omega arith in
       let above : s / 2 ^ 32 ≡ number 2 (carries b) = omega arith in
-      each-beside (λ k v. b k ≡ v) 32 2 (wordWires (dropped s)) (carryWires s) .1 (
+      each-beside (λ k v. b k ≡ v) 32 2 (wordWires (truncated s)) (carryWires s) .1 (
         λ k l. sym (ap (bit k) word ∙ bit-number b k word-bits l),
         λ k l. sym (ap (λ (n : ℕ). n / 2 ^ (1 - k) % 2) above ∙ bit-of-number 2 (carries b) k carry-bits l),
       )
@@ -64,13 +64,13 @@ unfolding sumWires carryWires wordWires
 sum-bits s b h = (
   λ g. written-bits b (g .0) s (g .1),
   λ g.
-      let parts = each-beside (λ k v. b k ≡ v) 32 2 (wordWires (dropped s)) (carryWires s) .0 g in
+      let parts = each-beside (λ k v. b k ≡ v) 32 2 (wordWires (truncated s)) (carryWires s) .0 g in
       let word : number 32 b ≡ s % 2 ^ 32 =
-      number-cong 32 b (λ i. bit i (dropped s)) (parts .0) ∙ number-bits (dropped s) (omega arith) in
+      number-cong 32 b (λ i. bit i (truncated s)) (parts .0) ∙ number-bits (truncated s) (omega arith) in
       let above : number 2 (carries b) ≡ s / 2 ^ 32 % 2 ^ 2 =
       number-cong 2 (carries b) (λ i. s / 2 ^ 32 / 2 ^ (1 - i) % 2) (parts .1) ∙ number-of-bits 2 (s / 2 ^ 32) in (
         each-add (λ k. b k < 2) 32 2 .1
-            (λ k l. rw (parts .0 k l) (bit-lt k (dropped s)), λ k l. rw (parts .1 k l) (omega arith)),
+            (λ k l. rw (parts .0 k l) (bit-lt k (truncated s)), λ k l. rw (parts .1 k l) (omega arith)),
         omega arith,
       ),
 )

@@ -27,7 +27,7 @@ use Rattle.forms.specs.declared.position.WordPosition.{WordPosition}
 use Rattle.refusal.specs.declared.numbers.WireNumber.{WireNumber}
 use Rattle.sm3.proofs.Bits.{bit-choice, bit-lt, bit-majority, bit-xor, bit-xor-3}
 use Rattle.sm3.proofs.Rotation.{bit-rotate}
-use Rattle.sm3.specs.Sm3.{choice, dropped, majority, _⊕_}
+use Rattle.sm3.specs.Sm3.{choice, truncated, majority, _⊕_}
 use Rattle.sm3.specs.Words.{bit, rotateLeft}
 
 module _ (a : ℕ → ℕ) (J : Judged a) where
@@ -42,10 +42,10 @@ module _ (a : ℕ → ℕ) (J : Judged a) where
       let place : (i + 0) % 32 ≡ i = omega arith in
       ap (λ (j : ℕ). a (w + j)) place ∙ h i l
 
-  pub reads-sum : (w s : ℕ) → Agree a w 34 (sumWires s) → Reads a (standing w) (dropped s)
+  pub reads-sum : (w s : ℕ) → Agree a w 34 (sumWires s) → Reads a (standing w) (truncated s)
   unfolding sumWires
   reads-sum w s h =
-      reads-standing w (dropped s) (each-beside (λ k v. a (w + k) ≡ v) 32 2 (wordWires (dropped s)) (carryWires s) .0 h .0)
+      reads-standing w (truncated s) (each-beside (λ k v. a (w + k) ≡ v) 32 2 (wordWires (truncated s)) (carryWires s) .0 h .0)
 
   reads-bit : (x : WordPosition) (X : ℕ) → Reads a x X → (i : ℕ) → i < 32 → a (wireAt x i .0) < 2
   reads-bit x X h i l = rw (h i l) (bit-lt i X)

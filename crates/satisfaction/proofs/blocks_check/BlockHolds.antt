@@ -8,12 +8,12 @@ use borrow.Author.Tests.{ltb-false, ltb-true}
 use lib.Dec.{lit<, lit≤, ltb}
 use Rattle.assignment.specs.Assignment.{entry}
 use Rattle.assignment.specs.Bounded.{BelowPrime}
-use Rattle.block.proofs.exact.Block.{block-run, blockForms, expanded-hold, pairs-hold, rounds-hold}
+use Rattle.block.proofs.exact.Block.{block-run, blockForms, expanded-hold, w-primes-hold, rounds-hold}
 use Rattle.block.proofs.exact.BlockRounds.{rowsBeforeRound-le}
 use Rattle.block.proofs.exact.States.{CarriesState, carries-eight}
 use Rattle.block.specs.BlockWires.{computedWires, expansionWires, stateWires}
 use Rattle.block.specs.Steps.{blockRows, computedRows, rowsBeforeRound}
-use Rattle.block.specs.Wires.{expansionAt, expansionWidth, pairsAt, resultAt, roundsAt}
+use Rattle.block.specs.Wires.{expansionAt, expansionWidth, wPrimesAt, resultAt, roundsAt}
 use Rattle.block.specs.declared.step.Step.the-variants.{Message}
 use Rattle.circuit.proofs.exact.Frame.{block-row}
 use Rattle.circuit.specs.Circuit.{begins, beginsAt, formOf, messageBit, messageForm, rowAt}
@@ -57,9 +57,9 @@ state-words s h =
 
 -- past its expansion a block has 21,824 rows
 pub past-few : {F : ℕ} {x bytes : List ℕ} {v : State} {r : ℕ} → PastExpansion F x v bytes r → r ≤ 21824
-past-few (to-word c few paired e) = omega arith
-past-few (to-round c few paired rounded e) = omega (arith, rowsBeforeRound-le c few)
-past-few (to-end paired rounded result e) = omega arith
+past-few (to-word c few primed e) = omega arith
+past-few (to-round c few primed rounded e) = omega (arith, rowsBeforeRound-le c few)
+past-few (to-end primed rounded result e) = omega arith
 
 module _ (bytes : List ℕ) (one : entry bytes 0 ≡ 1) (below : BelowPrime bytes) (C : Circuit) (i : ℕ) (l : i < blockCount C) where
   judged : Judged (entry bytes)
@@ -138,17 +138,17 @@ module _ (bytes : List ℕ) (one : entry bytes 0 ≡ 1) (below : BelowPrime byte
         pub past-expansion : {r : ℕ} → PastExpansion F words v bytes r
             → lowest (entry bytes) (rowAt C) (first + 512) (9984 + r) ≡ AllSatisfied
         unfolding block computedWires
-        past-expansion {r} (to-word c few paired e) =
+        past-expansion {r} (to-word c few primed e) =
             rows-hold (9984 + c * 32) r (omega arith)
-            (pairs-hold (entry bytes) judged F _ v carried _ bits (λ k h. refl) (expanded .entries) c few (paired .entries))
-            (past-few {v = v} (to-word c few paired e))
-        past-expansion {r} (to-round c few paired rounded e) =
+            (w-primes-hold (entry bytes) judged F _ v carried _ bits (λ k h. refl) (expanded .entries) c few (primed .entries))
+            (past-few {v = v} (to-word c few primed e))
+        past-expansion {r} (to-round c few primed rounded e) =
             rows-hold (9984 + 2048 + rowsBeforeRound c) r (omega arith)
-            (rounds-hold (entry bytes) judged F _ v carried _ bits (λ k h. refl) (expanded .entries) (paired .entries) c few (rounded .entries))
-            (past-few {v = v} (to-round c few paired rounded e))
-        past-expansion {r} (to-end paired rounded result e) =
+            (rounds-hold (entry bytes) judged F _ v carried _ bits (λ k h. refl) (expanded .entries) (primed .entries) c few (rounded .entries))
+            (past-few {v = v} (to-round c few primed rounded e))
+        past-expansion {r} (to-end primed rounded result e) =
             rows-hold computedRows r (omega arith)
             (block-run (entry bytes) judged F _ v carried _ bits (λ k h. refl) .1
-            (agrees-then (F + pairsAt) (omega arith) expanded
-            (agrees-then (F + roundsAt) (omega arith) paired (agrees-then (F + resultAt) (omega arith) rounded result)) .entries))
-            (past-few {v = v} (to-end paired rounded result e))
+            (agrees-then (F + wPrimesAt) (omega arith) expanded
+            (agrees-then (F + roundsAt) (omega arith) primed (agrees-then (F + resultAt) (omega arith) rounded result)) .entries))
+            (past-few {v = v} (to-end primed rounded result e))

@@ -18,7 +18,7 @@ ghost use Rattle.satisfaction.specs.declared.rows_check.Verdict.the-vari
 ghost use Rattle.sm3.specs.Sm3.{rotatedConstant};
 ghost use Rattle.sm3.specs.declared.state.State.{State};
 use crate::agreement::expansion::expanded_words_agree;
-use crate::agreement::expansion::pairs_agree;
+use crate::agreement::expansion::w_primes_agree;
 use crate::agreement::message::content_holds;
 use crate::agreement::message::padding_agrees;
 use crate::agreement::rounds::rounds_agree;
@@ -32,9 +32,9 @@ use block::place::MESSAGE_ROWS;
 use block::place::W_PRIME_ROWS;
 use block::place::rows_before_round;
 use block::wire::EXPANSION;
-use block::wire::PAIRS;
 use block::wire::RESULT;
 use block::wire::ROUNDS;
+use block::wire::W_PRIMES;
 use circuit::circuits::Circuit;
 use circuit::circuits::message_of;
 use circuit::wire::beginning;
@@ -58,9 +58,9 @@ fn rows_past_expansion(
     requires { ⌜ (now t ≡ tab 64 rotatedConstant) × (8 * (first .0 + wiresPerBlock) ≤ length (now assignment)) ⌝ }
     ensures { λ r. ⌜ PastExpansion (first .0) (now (x .entry)) v (now (assignment .entry)) r ⌝ }
 {
-    let pairs = pairs_agree(assignment, WireNumber(first.0 + PAIRS), x);
-    if pairs < 64 {
-        return 32 * pairs;
+    let w_primes = w_primes_agree(assignment, WireNumber(first.0 + W_PRIMES), x);
+    if w_primes < 64 {
+        return 32 * w_primes;
     }
     let rounds = rounds_agree(assignment, WireNumber(first.0 + ROUNDS), v, x, t);
     let before_round = W_PRIME_ROWS + rows_before_round(rounds.count);

@@ -1,4 +1,4 @@
-// The wires of a block's expansion and of the pairs W'0 to W'63, held against the entries of an assignment.
+// The wires of a block's expansion and of the words W'0 to W'63, held against the entries of an assignment.
 ghost use mathlib.Core.Bool.{true};
 ghost use mathlib.Core.Path.{_≡_};
 ghost use Prim.Native.Nat.{ℕ, _+_, _*_, _≤_};
@@ -8,7 +8,7 @@ ghost use Rattle.block.specs.Wires.{expansionWidth};
 ghost use Rattle.encoding.specs.Sequence.{beside, grid};
 ghost use Rattle.forms.specs.WordWires.{wordWires};
 ghost use Rattle.satisfaction.specs.Agrees.{Agrees};
-ghost use Rattle.sm3.specs.Sm3.{expansion, pairWord};
+ghost use Rattle.sm3.specs.Sm3.{expansion, wPrime};
 use crate::agreement::wires::word_agrees;
 use assignment::values::ExpansionValues;
 use assignment::values::expansion_values;
@@ -46,9 +46,9 @@ pub fn expanded_words_agree(assignment: &[u8], w: WireNumber, x: &mut [u32; 68])
 }
 
 // How many of the words W'0 to W'63 have their wires from w on, up to the first that has not.
-pub fn pairs_agree(assignment: &[u8], w: WireNumber, x: &[u32; 68]) -> u64
+pub fn w_primes_agree(assignment: &[u8], w: WireNumber, x: &[u32; 68]) -> u64
     requires { ⌜ 8 * (w .0 + 2048) ≤ length (now assignment) ⌝ }
-    ensures { λ r. ⌜ (r ≤ 64) × Agrees (w .0) (r * 32) (grid 32 (λ (j : ℕ). wordWires (pairWord (now (x .entry)) j))) (now (assignment .entry)) ⌝ }
+    ensures { λ r. ⌜ (r ≤ 64) × Agrees (w .0) (r * 32) (grid 32 (λ (j : ℕ). wordWires (wPrime (now (x .entry)) j))) (now (assignment .entry)) ⌝ }
 {
     for j in 0..64 {
         if !word_agrees(assignment, WireNumber(w.0 + 32 * j as u64), x[j] ^ x[j + 4]) {

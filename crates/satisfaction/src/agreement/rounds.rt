@@ -9,7 +9,7 @@ ghost use Rattle.block.specs.BlockWires.{roundWires};
 ghost use Rattle.block.specs.Wires.{roundWidth};
 ghost use Rattle.encoding.specs.Sequence.{grid, tab};
 ghost use Rattle.satisfaction.specs.Agrees.{Agrees};
-ghost use Rattle.sm3.specs.Sm3.{pairWord, rotatedConstant, rounds};
+ghost use Rattle.sm3.specs.Sm3.{wPrime, rotatedConstant, rounds};
 ghost use Rattle.sm3.specs.declared.state.State.{State};
 use crate::agreement::wires::sum_agrees;
 use crate::agreement::wires::word_agrees;
@@ -29,7 +29,7 @@ use sm3::state::State;
 // Whether the 230 wires from w on are those of a round that computes r.
 fn round_agrees(assignment: &[u8], w: WireNumber, r: RoundValues) -> bool
     requires { ⌜ 8 * (w .0 + roundWidth) ≤ length (now assignment) ⌝ }
-    ensures { λ b. ⌜ (b ≡ true → (x : List ℕ) (j : ℕ) (s : State) → IsRound r j (getD x j 0) (pairWord x j) s → Agrees (w .0) roundWidth (roundWires x j s) (now (assignment .entry))) ⌝ }
+    ensures { λ b. ⌜ (b ≡ true → (x : List ℕ) (j : ℕ) (s : State) → IsRound r j (getD x j 0) (wPrime x j) s → Agrees (w .0) roundWidth (roundWires x j s) (now (assignment .entry))) ⌝ }
 {
     let u = r.u;
     if !sum_agrees(assignment, w, u) {

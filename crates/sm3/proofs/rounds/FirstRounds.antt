@@ -8,7 +8,7 @@ use native.Mathlib.Omega.{arith}
 use lib.ListN.{getD, set, take}
 use lib.Seq.{getD-take}
 use Rattle.sm3.specs.Reached.{Reached}
-use Rattle.sm3.specs.Sm3.{_⊕_, expansion, nextWord, pairWord, roundOf, rounds, rotatedConstant}
+use Rattle.sm3.specs.Sm3.{_⊕_, expansion, nextWord, wPrime, roundOf, rounds, rotatedConstant}
 use Rattle.sm3.specs.declared.state.State.{State}
 use Rattle.sm3.proofs.expansion.FirstWords.{Holds, W, W-next, getD-expansion, store-W}
 use Rattle.encoding.proofs.Tab.{getD-tab}
@@ -16,7 +16,7 @@ use Rattle.encoding.specs.Bits.{bitOfBytes}
 use Rattle.encoding.specs.Sequence.{tab}
 
 -- one round more
-pub rounds-next : (w : List ℕ) (v : State) (j : ℕ) → rounds w v (j + 1) ≡ roundOf j (getD w j 0) (pairWord w j) (rounds w v j)
+pub rounds-next : (w : List ℕ) (v : State) (j : ℕ) → rounds w v (j + 1) ≡ roundOf j (getD w j 0) (wPrime w j) (rounds w v j)
 unfolding rounds
 rounds-next w v j = rw add-one
 
@@ -33,7 +33,7 @@ getD-first bits w m j h e =
 pub reached-next : (bytes t : List ℕ) (v : State) (w : List ℕ) (s s′ : State) (j x : ℕ) → j < 64
     → x ≡ nextWord (bitOfBytes bytes) w (j + 4) → s′ ≡ roundOf j (getD w j 0) (getD w j 0 ⊕ x) s
     → Reached bytes t v j w s → Reached bytes t v (j + 1) (set w (j + 4) x) s′
-unfolding pairWord
+unfolding wPrime
 reached-next bytes t v w s s′ j x h next made r =
     let bits : ℕ → ℕ = bitOfBytes bytes in
     let all : List ℕ = expansion bits 68 in

@@ -9,13 +9,13 @@ use lib.ListN.{getD, take}
 use lib.Seq.{getD-take}
 use Rattle.assignment.proofs.Writes.{wrote-as, wrote-same, wrote-then}
 use Rattle.block.specs.BlockWires.{blockWires, computedWires, roundWires, stateWires}
-use Rattle.block.specs.Wires.{expansionAt, pairsAt, resultAt, roundWidth, roundsAt}
+use Rattle.block.specs.Wires.{expansionAt, wPrimesAt, resultAt, roundWidth, roundsAt}
 use Rattle.encoding.specs.Bits.{number}
 use Rattle.encoding.specs.Sequence.{grid}
 use Rattle.forms.specs.WordWires.{wordWires}
 use Rattle.sm3.proofs.WordBits.{bit-number}
 use Rattle.sm3.proofs.expansion.FirstWords.{getD-block}
-use Rattle.sm3.specs.Sm3.{block, blockWord, expansion, pairWord, rounds, xorState}
+use Rattle.sm3.specs.Sm3.{block, blockWord, expansion, wPrime, rounds, xorState}
 use Rattle.sm3.specs.Words.{bit}
 use Rattle.assignment.proofs.block_wires.put_block.Statement.{statement}
 use Rattle.assignment.proofs.block_wires.put_block.Tie as tie
@@ -47,8 +47,8 @@ put-expanded-words-requires c κs = search needs
 add-t16-2 : tie.Need-add-t16-2
 add-t16-2 c = search needs
 
-put-pairs-requires : tie.Need-put-pairs-requires
-put-pairs-requires c κs = search needs
+put-w-primes-requires : tie.Need-put-w-primes-requires
+put-w-primes-requires c κs = search needs
 
 add-t16-3 : tie.Need-add-t16-3
 add-t16-3 c = search needs
@@ -69,7 +69,7 @@ put-state-requires c κs =
     let p2 = p3 .before .before .before .before .before .before in
     let p1 = p2 .before .before .before .before .before .before in
     let start = p1 .before .before .before .before in
-    omega (arith, start, p4 .put-rounds .kept, p3 .put-pairs .kept, p2 .put-expanded-words .kept, p1 .put-words .kept)
+    omega (arith, start, p4 .put-rounds .kept, p3 .put-w-primes .kept, p2 .put-expanded-words .kept, p1 .put-words .kept)
 
 same-length : tie.Need-same-length
 same-length c =
@@ -78,7 +78,7 @@ same-length c =
     let p3 = p4 .before .before .before .before .before .before in
     let p2 = p3 .before .before .before .before .before .before in
     let p1 = p2 .before .before .before .before .before .before in
-    p5 .put-state .kept .0 ∙ p4 .put-rounds .kept .0 ∙ p3 .put-pairs .kept .0 ∙ p2 .put-expanded-words .kept .0 ∙ p1 .put-words .kept .0
+    p5 .put-state .kept .0 ∙ p4 .put-rounds .kept .0 ∙ p3 .put-w-primes .kept .0 ∙ p2 .put-expanded-words .kept .0 ∙ p1 .put-words .kept .0
 
 returns : tie.Need-returns
 unfolding block blockWires computedWires
@@ -98,9 +98,9 @@ returns c =
     ∙ ap (λ s. xorState s v) (p4 .put-rounds .ensures .0 ∙ ap (λ x. rounds x v 64) (x .0)) in (
       result,
       wrote-then (w + expansionAt) refl (wrote-same bits (block-bits bits (a .words) h e) (p1 .put-words .ensures))
-          (wrote-then (w + pairsAt) (omega arith) (x .1)
+          (wrote-then (w + wPrimesAt) (omega arith) (x .1)
           (wrote-then (w + roundsAt) (omega arith)
-          (wrote-as (ap (λ x. grid 32 (λ j. wordWires (pairWord x j))) (x .0)) (p3 .put-pairs .ensures))
+          (wrote-as (ap (λ x. grid 32 (λ j. wordWires (wPrime x j))) (x .0)) (p3 .put-w-primes .ensures))
           (wrote-then (w + resultAt) (omega arith)
           (wrote-as (ap (λ x. grid roundWidth (λ j. roundWires x j (rounds x v j))) (x .0)) (p4 .put-rounds .ensures .1))
           (wrote-as (ap stateWires result) (p5 .put-state .ensures))))),
@@ -115,7 +115,7 @@ put-block-spec =
     add-t16
     put-expanded-words-requires
     add-t16-2
-    put-pairs-requires
+    put-w-primes-requires
     add-t16-3
     put-rounds-requires
     xor-states-requires

@@ -9,7 +9,7 @@ use Rattle.block.specs.BlockWires.{roundWires}
 use Rattle.encoding.proofs.Regroup.{beside-assoc}
 use Rattle.encoding.specs.Sequence.{beside}
 use Rattle.forms.specs.WordWires.{sumWires, wordWires}
-use Rattle.sm3.specs.Sm3.{FF, GG, P0, SS2, dropped, pairWord, sumTT1, sumTT2, sumU}
+use Rattle.sm3.specs.Sm3.{FF, GG, P0, SS2, truncated, wPrime, sumTT1, sumTT2, sumU}
 use Rattle.sm3.specs.declared.state.State.{State}
 use denote.Ref.{now}
 use Rattle.assignment.proofs.rounds.put_round.Statement.{statement}
@@ -24,9 +24,9 @@ regrouped u s f g h =
 
 -- the wires of values that are the round's
 round-wires : (x : List ℕ) (j : ℕ) (s : State) {ss2 ff gg p0 : ℕ} → ss2 ≡ SS2 j s → ff ≡ FF j (s .a) (s .b) (s .c)
-    → gg ≡ GG j (s .e) (s .f) (s .g) → p0 ≡ P0 (dropped (sumTT2 j (getD x j 0) s))
+    → gg ≡ GG j (s .e) (s .f) (s .g) → p0 ≡ P0 (truncated (sumTT2 j (getD x j 0) s))
     → beside 130 (beside 34 (sumWires (sumU j s)) (beside 32 (wordWires ss2) (beside 32 (wordWires ff) (wordWires gg))))
-    (beside 34 (sumWires (sumTT1 j (pairWord x j) s)) (beside 34 (sumWires (sumTT2 j (getD x j 0) s)) (wordWires p0)))
+    (beside 34 (sumWires (sumTT1 j (wPrime x j) s)) (beside 34 (sumWires (sumTT2 j (getD x j 0) s)) (wordWires p0)))
     ≡ roundWires x j s
 unfolding roundWires
 round-wires x j s ss2 ff gg p0 = regrouped _ _ _ _ _ ∙ cc

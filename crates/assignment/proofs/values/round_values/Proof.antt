@@ -2,7 +2,7 @@
 use native.Mathlib.Omega.{arith}
 use borrow.Author.Needs.{needs}
 use Rattle.sm3.proofs.rounds.FirstRounds.{table-at}
-use Rattle.sm3.specs.Sm3.{pairWord}
+use Rattle.sm3.specs.Sm3.{wPrime}
 use Rattle.assignment.proofs.values.round_values.Statement.{statement}
 use Rattle.assignment.proofs.values.round_values.Tie as tie
 
@@ -37,7 +37,7 @@ values-of-requires : tie.Need-values-of-requires
 values-of-requires c κs = table-at _ _ (omega arith) (c .before .before .before .before .pre .1)
 
 returns : tie.Need-returns
-unfolding pairWord
+unfolding wPrime
 returns c = c .values-of .ensures
 
 pub round-values-spec : {M : Type 1} → statement M

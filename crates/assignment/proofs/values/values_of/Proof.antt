@@ -12,17 +12,17 @@ use Rattle.assignment.proofs.values.values_of.Statement.{statement}
 use Rattle.assignment.proofs.values.values_of.Tie as tie
 
 -- what the calls ensure, put in
-module _ (s : State) (j word pair : ℕ) (u tt1 tt2 : Sum) {t a12 ss1 ff gg p0 : ℕ} where
+module _ (s : State) (j word w′ : ℕ) (u tt1 tt2 : Sum) {t a12 ss1 ff gg p0 : ℕ} where
   round-is : t ≡ rotatedConstant j → a12 ≡ rotateLeft 12 (s .a) → IsSum u (a12 + s .e + t) → ss1 ≡ rotateLeft 7 (u .word)
-      → ff ≡ FF j (s .a) (s .b) (s .c) → gg ≡ GG j (s .e) (s .f) (s .g) → IsSum tt1 (ff + s .d + (ss1 ⊕ a12) + pair)
+      → ff ≡ FF j (s .a) (s .b) (s .c) → gg ≡ GG j (s .e) (s .f) (s .g) → IsSum tt1 (ff + s .d + (ss1 ⊕ a12) + w′)
       → IsSum tt2 (gg + s .h + ss1 + word) → p0 ≡ P0 (tt2 .word)
-      → IsRound (record { u = u; ss2 = ss1 ⊕ a12; ff = ff; gg = gg; tt1 = tt1; tt2 = tt2; p0 = p0 }) j word pair s
+      → IsRound (record { u = u; ss2 = ss1 ⊕ a12; ff = ff; gg = gg; tt1 = tt1; tt2 = tt2; p0 = p0 }) j word w′ s
   unfolding SS1 SS2 sumTT1 sumTT2 sumU
   round-is et ea eu es ef eg e1 e2 ep =
       let whole-u : a12 + s .e + t ≡ sumU j s = cc in
       let same-u = subst (IsSum u) whole-u eu in
       let kept = same-u .word in
-      let whole-1 : ff + s .d + (ss1 ⊕ a12) + pair ≡ sumTT1 j pair s = cc in
+      let whole-1 : ff + s .d + (ss1 ⊕ a12) + w′ ≡ sumTT1 j w′ s = cc in
       let whole-2 : gg + s .h + ss1 + word ≡ sumTT2 j word s = cc in
       let same-2 = subst (IsSum tt2) whole-2 e2 in
       let kept-2 : ss1 ⊕ a12 ≡ SS2 j s = cc in
@@ -70,7 +70,7 @@ returns c =
     let u = ss1 .before in
     let start = u .before .before in
     let a = start .args in
-    round-is (a .s) (a .j) (a .word) (a .pair) _ _ _ (start .pre) (u .before .rotate-left .ensures) (u .add-3 .ensures)
+    round-is (a .s) (a .j) (a .word) (a .primed) _ _ _ (start .pre) (u .before .rotate-left .ensures) (u .add-3 .ensures)
     (ss1 .rotate-left2 .ensures) (ff .ff-of .ensures) (gg .gg-of .ensures) (tt1 .add-4 .ensures) (tt2 .add-42 .ensures) (c .p0 .ensures)
 
 pub values-of-spec : {M : Type 1} → statement M

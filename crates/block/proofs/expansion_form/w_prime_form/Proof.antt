@@ -14,8 +14,8 @@ add-expanded-word c = search needs
 expanded-word-requires-2 : tie.Need-expanded-word-requires-2
 expanded-word-requires-2 c κs = search needs
 
-pair-word-requires : tie.Need-pair-word-requires
-pair-word-requires c κs = search needs
+w-prime-word-requires : tie.Need-w-prime-word-requires
+w-prime-word-requires c κs = search needs
 
 xor-of-two-requires : tie.Need-xor-of-two-requires
 xor-of-two-requires c κs = search needs
@@ -26,7 +26,7 @@ returns c =
     let b = c .before in
     let x = b .before .before .expanded-word .ensures .0 in
     let y = b .before .expanded-word2 .ensures .0 in
-    let r = b .pair-word .ensures .0 in
+    let r = b .w-prime-word .ensures .0 in
     same-xor _ (c .xor-of-two .ensures) x y r
 
 pub w-prime-form-spec : {M : Type 1} → statement M
@@ -36,6 +36,6 @@ w-prime-form-spec =
     expanded-word-requires
     add-expanded-word
     expanded-word-requires-2
-    pair-word-requires
+    w-prime-word-requires
     xor-of-two-requires
     returns)

@@ -30,8 +30,8 @@ word-before-requires c κs = search needs
 round-word-requires-2 : tie.Need-round-word-requires-2
 round-word-requires-2 c κs = search needs
 
-pair-word-requires : tie.Need-pair-word-requires
-pair-word-requires c κs = search needs
+w-prime-word-requires : tie.Need-w-prime-word-requires
+w-prime-word-requires c κs = search needs
 
 returns-2 : tie.Need-returns-2
 unfolding tt1Form
@@ -40,7 +40,7 @@ returns-2 c =
     let x = b .round-word .ensures .0 in
     let y = c .before .before .word-before .ensures .0 in
     let z = c .before .round-word2 .ensures .0 in
-    let t = c .pair-word .ensures .0 in
+    let t = c .w-prime-word .ensures .0 in
     let r = ap (λ u. u + tt1At) (b .before .before .before .round-first .ensures) in
     (sum-of-four 0 _ (b .before .if1 .left) x y z t r, search needs)
 
@@ -55,5 +55,5 @@ tt1-form-spec =
     round-word-requires
     word-before-requires
     round-word-requires-2
-    pair-word-requires
+    w-prime-word-requires
     returns-2)

@@ -8,7 +8,7 @@ use borrow.Author.Needs.{needs}
 use denote.Ref.{now}
 use lib.Dec.{ltb}
 use lib.Seq.{getD-set-other, getD-set-same}
-use Rattle.sm3.specs.Sm3.{_⊕_, FF, GG, P0, SS1, SS2, choice, dropped, majority, rotatedConstant, roundOf, sumTT1, sumTT2, sumU}
+use Rattle.sm3.specs.Sm3.{_⊕_, FF, GG, P0, SS1, SS2, choice, truncated, majority, rotatedConstant, roundOf, sumTT1, sumTT2, sumU}
 use Rattle.sm3.specs.Words.{rotateLeft}
 use Rattle.sm3.specs.declared.state.State.{State}
 use Rattle.sm3.proofs.rounds.FirstRounds.{reached-next, table-at}
@@ -16,23 +16,23 @@ use Rattle.sm3.proofs.round.round.Statement.{statement}
 use Rattle.sm3.proofs.round.round.Tie as tie
 
 -- the words that a round makes, in the order of the code
-round-made : (s : State) (j word pair t : ℕ) {a12 u ss1 late-gg gg tt2 late-ff ff tt1 c e g : ℕ}
+round-made : (s : State) (j word w′ t : ℕ) {a12 u ss1 late-gg gg tt2 late-ff ff tt1 c e g : ℕ}
     → t ≡ rotatedConstant j
     → a12 ≡ rotateLeft 12 (s .a)
-    → u ≡ dropped (a12 + s .e + t)
+    → u ≡ truncated (a12 + s .e + t)
     → ss1 ≡ rotateLeft 7 u
     → late-gg ≡ choice (s .e) (s .f) (s .g)
     → gg ≡ cond (ltb j 16) (s .e ⊕ s .f ⊕ s .g) late-gg
-    → tt2 ≡ dropped (gg + s .h + ss1 + word)
+    → tt2 ≡ truncated (gg + s .h + ss1 + word)
     → late-ff ≡ majority (s .a) (s .b) (s .c)
     → ff ≡ cond (ltb j 16) (s .a ⊕ s .b ⊕ s .c) late-ff
-    → tt1 ≡ dropped (ff + s .d + (ss1 ⊕ a12) + pair)
+    → tt1 ≡ truncated (ff + s .d + (ss1 ⊕ a12) + w′)
     → c ≡ rotateLeft 9 (s .b)
     → e ≡ P0 tt2
     → g ≡ rotateLeft 19 (s .f)
-    → record { a = tt1; b = s .a; c = c; d = s .c; e = e; f = s .e; g = g; h = s .g } ≡ roundOf j word pair s
+    → record { a = tt1; b = s .a; c = c; d = s .c; e = e; f = s .e; g = g; h = s .g } ≡ roundOf j word w′ s
 unfolding FF GG SS1 SS2 roundOf sumTT1 sumTT2 sumU
-round-made s j word pair t h₀ h₁ h₂ h₃ h₄ h₅ h₆ h₇ h₈ h₉ h₁₀ h₁₁ h₁₂ = cc
+round-made s j word w′ t h₀ h₁ h₂ h₃ h₄ h₅ h₆ h₇ h₈ h₉ h₁₀ h₁₁ h₁₂ = cc
 
 rotate-left-requires : tie.Need-rotate-left-requires
 rotate-left-requires c κs = search needs
@@ -79,20 +79,20 @@ mul-w c = search needs
 element-write-w : tie.Need-element-write-w
 element-write-w c = search needs
 
-mul-pair : tie.Need-mul-pair
-mul-pair c = search needs
+mul-w-prime : tie.Need-mul-w-prime
+mul-w-prime c = search needs
 
-element-copy-out-pair : tie.Need-element-copy-out-pair
-element-copy-out-pair c = search needs
+element-copy-out-w-prime : tie.Need-element-copy-out-w-prime
+element-copy-out-w-prime c = search needs
 
-add-pair : tie.Need-add-pair
-add-pair c = search needs
+add-w-prime : tie.Need-add-w-prime
+add-w-prime c = search needs
 
-mul-pair-2 : tie.Need-mul-pair-2
-mul-pair-2 c = search needs
+mul-w-prime-2 : tie.Need-mul-w-prime-2
+mul-w-prime-2 c = search needs
 
-element-copy-out-pair-2 : tie.Need-element-copy-out-pair-2
-element-copy-out-pair-2 c = search needs
+element-copy-out-w-prime-2 : tie.Need-element-copy-out-w-prime-2
+element-copy-out-w-prime-2 c = search needs
 
 majority-of-requires : tie.Need-majority-of-requires
 majority-of-requires c κs = search needs
@@ -138,7 +138,7 @@ returns c =
     (n .before .before .sum-of-4 .ensures)
     (made .before .before .majority-of .ensures)
     (made .before .ff-or-gg2 .ensures)
-    (made .sum-of-42 .ensures ∙ ap₂ (λ p q. dropped (ff + a .s .d + (ss1 ⊕ a12) + (p ⊕ q))) here there)
+    (made .sum-of-42 .ensures ∙ ap₂ (λ p q. truncated (ff + a .s .d + (ss1 ⊕ a12) + (p ⊕ q))) here there)
     (c .before .before .rotate-left3 .ensures)
     (c .before .p0 .ensures)
     (c .rotate-left4 .ensures))
@@ -163,11 +163,11 @@ round-spec =
     add-w
     mul-w
     element-write-w
-    mul-pair
-    element-copy-out-pair
-    add-pair
-    mul-pair-2
-    element-copy-out-pair-2
+    mul-w-prime
+    element-copy-out-w-prime
+    add-w-prime
+    mul-w-prime-2
+    element-copy-out-w-prime-2
     majority-of-requires
     ff-or-gg-requires-2
     sum-of-4-requires-2

@@ -7,48 +7,48 @@ use borrow.Author.Needs.{needs}
 use borrow.Author.Tests.{not-false}
 use Rattle.block.specs.BlockWires.{roundWires, stateWires}
 use Rattle.block.specs.Steps.{rowsBeforeRound}
-use Rattle.block.specs.Wires.{pairsAt, resultAt, roundWidth, roundsAt}
+use Rattle.block.specs.Wires.{wPrimesAt, resultAt, roundWidth, roundsAt}
 use Rattle.encoding.specs.Sequence.{grid}
 use Rattle.forms.specs.WordWires.{wordWires}
 use Rattle.satisfaction.proofs.Agreeing.{agrees-as}
 use Rattle.satisfaction.specs.Agrees.{Agrees, PastExpansion, to-end, to-round, to-word}
-use Rattle.sm3.specs.Sm3.{pairWord, rounds, xorState}
+use Rattle.sm3.specs.Sm3.{wPrime, rounds, xorState}
 use Rattle.sm3.specs.declared.state.State.{State}
 use Rattle.satisfaction.proofs.agreement.block_wires.rows_past_expansion.Statement.{statement}
 use Rattle.satisfaction.proofs.agreement.block_wires.rows_past_expansion.Tie as tie
 
 -- All of the words W' that were asked agree, and c rounds, which have n rows.
-module _ (F : ℕ) (x : List ℕ) (v : State) {pairs c n : ℕ} {bytes : List ℕ} {S : State}
-    (paired : (pairs ≤ 64) × Agrees (F + pairsAt) (pairs * 32) (grid 32 (λ j. wordWires (pairWord x j))) bytes) (all : 64 ≤ pairs)
+module _ (F : ℕ) (x : List ℕ) (v : State) {wPrimes c n : ℕ} {bytes : List ℕ} {S : State}
+    (primed : (wPrimes ≤ 64) × Agrees (F + wPrimesAt) (wPrimes * 32) (grid 32 (λ j. wordWires (wPrime x j))) bytes) (all : 64 ≤ wPrimes)
     (rounded : (c ≤ 64) × (S ≡ rounds x v c)
     × Agrees (F + roundsAt) (c * roundWidth) (grid roundWidth (λ j. roundWires x j (rounds x v j))) bytes)
     (rows : n ≡ rowsBeforeRound c) where
-  all-pairs : Agrees (F + pairsAt) 2048 (grid 32 (λ j. wordWires (pairWord x j))) bytes
-  all-pairs =
-      let whole : pairs ≡ 64 = omega arith in rw whole at (paired .1)
+  all-w-primes : Agrees (F + wPrimesAt) 2048 (grid 32 (λ j. wordWires (wPrime x j))) bytes
+  all-w-primes =
+      let whole : wPrimes ≡ 64 = omega arith in rw whole at (primed .1)
 
   round-reached : PastExpansion F x v bytes (2048 + n)
-  round-reached = to-round c (rounded .0) all-pairs (rounded .2) (ap (λ r. 2048 + r) rows)
+  round-reached = to-round c (rounded .0) all-w-primes (rounded .2) (ap (λ r. 2048 + r) rows)
 
   end-reached : {s : State} → 64 ≤ c → s ≡ xorState S v → Agrees (F + resultAt) 256 (stateWires s) bytes → PastExpansion F x v bytes (2048 + n + 256)
   end-reached last result stands =
       let whole : c ≡ 64 = omega (arith, rounded .0) in
-      to-end all-pairs (rw whole at (rounded .2))
+      to-end all-w-primes (rw whole at (rounded .2))
       (agrees-as (ap stateWires (result ∙ ap (λ S. xorState S v) (rounded .1 ∙ ap (rounds x v) whole))) stands)
       (omega (arith, rows ∙ ap rowsBeforeRound whole))
 
 add-before-round : tie.Need-add-before-round
 add-before-round c = search needs
 
-pairs-agree-requires : tie.Need-pairs-agree-requires
-pairs-agree-requires c κs = search needs
+w-primes-agree-requires : tie.Need-w-primes-agree-requires
+w-primes-agree-requires c κs = search needs
 
 mul-result : tie.Need-mul-result
 mul-result c = search needs
 
 returns : tie.Need-returns
 returns c =
-    let paired = c .before .pairs-agree .ensures in to-word _ (paired .0) (paired .1) refl
+    let primed = c .before .w-primes-agree .ensures in to-word _ (primed .0) (primed .1) refl
 
 add-before-round-2 : tie.Need-add-before-round-2
 add-before-round-2 c = search needs
@@ -67,7 +67,7 @@ returns-2 c =
     let counted = c .before .before in
     let asked = counted .before .before .before in
     let a = asked .before .before .before .before .args in
-    round-reached (a .first .0) (a .x .now) (a .v) (asked .before .pairs-agree .ensures) (asked .if1 .left) (counted .before .rounds-agree .ensures)
+    round-reached (a .first .0) (a .x .now) (a .v) (asked .before .w-primes-agree .ensures) (asked .if1 .left) (counted .before .rounds-agree .ensures)
     (counted .rows-before-round .ensures .0)
 
 xor-states-requires : tie.Need-xor-states-requires
@@ -84,7 +84,7 @@ returns-3 c =
     let counted = c .before .before .before .before .before .before in
     let asked = counted .before .before .before in
     let a = asked .before .before .before .before .args in
-    round-reached (a .first .0) (a .x .now) (a .v) (asked .before .pairs-agree .ensures) (asked .if1 .left) (counted .before .rounds-agree .ensures)
+    round-reached (a .first .0) (a .x .now) (a .v) (asked .before .w-primes-agree .ensures) (asked .if1 .left) (counted .before .rounds-agree .ensures)
     (counted .rows-before-round .ensures .0)
 
 add-result : tie.Need-add-result
@@ -96,7 +96,7 @@ returns-4 c =
     let counted = made .before .before .before in
     let asked = counted .before .before .before in
     let a = asked .before .before .before .before .args in
-    end-reached (a .first .0) (a .x .now) (a .v) (asked .before .pairs-agree .ensures) (asked .if1 .left) (counted .before .rounds-agree .ensures)
+    end-reached (a .first .0) (a .x .now) (a .v) (asked .before .w-primes-agree .ensures) (asked .if1 .left) (counted .before .rounds-agree .ensures)
     (counted .rows-before-round .ensures .0) (made .before .if2 .left) (made .xor-states .ensures)
     (c .before .state-agrees .ensures (not-false _ (c .if3 .left)))
 
@@ -105,7 +105,7 @@ rows-past-expansion-spec =
     tie.close
     (tie.spec
     add-before-round
-    pairs-agree-requires
+    w-primes-agree-requires
     mul-result
     returns
     add-before-round-2

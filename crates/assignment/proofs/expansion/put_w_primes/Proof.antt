@@ -1,4 +1,4 @@
--- Before turn j the wires of the first j pairs are written; a turn writes the next row of the grid.
+-- Before turn j the wires of the first j wPrimes are written; a turn writes the next row of the grid.
 use mathlib.Core.List.{List}
 use mathlib.Core.Path.{_≡_, refl}
 use Prim.Native.Nat.{ℕ, _-_, _*_, _≤_}
@@ -8,16 +8,16 @@ use Rattle.assignment.proofs.Writes.{length-wrote, wrote-none, wrote-ro
 use Rattle.assignment.specs.Wrote.{Wrote}
 use Rattle.encoding.specs.Sequence.{grid}
 use Rattle.forms.specs.WordWires.{wordWires}
-use Rattle.sm3.specs.Sm3.{pairWord}
-use Rattle.assignment.proofs.expansion.put_pairs.Statement.{statement}
-use Rattle.assignment.proofs.expansion.put_pairs.Tie as tie
+use Rattle.sm3.specs.Sm3.{wPrime}
+use Rattle.assignment.proofs.expansion.put_w_primes.Statement.{statement}
+use Rattle.assignment.proofs.expansion.put_w_primes.Tie as tie
 
--- the wires of the pairs
-abbrev pairs : List ℕ → ℕ → ℕ
-pairs x = grid 32 (λ j. wordWires (pairWord x j))
+-- the wires of the wPrimes
+abbrev wPrimes : List ℕ → ℕ → ℕ
+wPrimes x = grid 32 (λ j. wordWires (wPrime x j))
 
 abbrev Inv-loop : tie.InvT-loop
-Inv-loop out₀ w x j₀ out j = (j ≤ 64) × Wrote (w .0) (32 * j) (pairs x) out₀ out
+Inv-loop out₀ w x j₀ out j = (j ≤ 64) × Wrote (w .0) (32 * j) (wPrimes x) out₀ out
 
 abbrev μ-loop : tie.MeasureT-loop
 μ-loop out₀ w x j₀ out j = 64 - j
@@ -56,11 +56,11 @@ loop-less : tie.Need-loop-less Inv-loop μ-loop
 loop-less c = search needs
 
 loop-again : tie.Need-loop-again Inv-loop μ-loop
-unfolding pairWord
+unfolding wPrime
 loop-again c =
     let l = c .before .before .before .before .before .before .before .before in
     let x = l .before .before .args .x .now in
-    (omega arith, wrote-row (λ j. wordWires (pairWord x j)) (l .loop .j) _ refl (l .loop .inv .1) (c .before .before .put-word .ensures))
+    (omega arith, wrote-row (λ j. wordWires (wPrime x j)) (l .loop .j) _ refl (l .loop .inv .1) (c .before .before .put-word .ensures))
 
 same-length : tie.Need-same-length Inv-loop μ-loop
 same-length c = length-wrote (c .before .loop .inv .1)
@@ -70,8 +70,8 @@ returns c =
     let all : c .before .loop .j ≡ 64 = omega arith in
     rw all at (c .before .loop .inv .1)
 
-pub put-pairs-spec : {M : Type 1} → statement M
-put-pairs-spec =
+pub put-w-primes-spec : {M : Type 1} → statement M
+put-w-primes-spec =
     tie.close
     (tie.spec
     Inv-loop

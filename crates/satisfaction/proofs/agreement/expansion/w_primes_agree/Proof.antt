@@ -1,4 +1,4 @@
--- Before turn j the wires of the first j pairs agree.
+-- Before turn j the wires of the first j wPrimes agree.
 use Prim.Native.Nat.{ℕ, _+_, _-_, _*_, _<_, _≤_}
 use native.Mathlib.Omega.{arith}
 use borrow.Author.Count.{below-more, below-none}
@@ -7,13 +7,13 @@ use borrow.Author.Tests.{not-false}
 use Rattle.forms.specs.WordWires.{wordWires}
 use Rattle.satisfaction.proofs.Agreeing.{agrees-rows}
 use Rattle.satisfaction.specs.Agrees.{Agrees}
-use Rattle.sm3.specs.Sm3.{pairWord}
-use Rattle.satisfaction.proofs.agreement.expansion.pairs_agree.Statement.{statement}
-use Rattle.satisfaction.proofs.agreement.expansion.pairs_agree.Tie as tie
+use Rattle.sm3.specs.Sm3.{wPrime}
+use Rattle.satisfaction.proofs.agreement.expansion.w_primes_agree.Statement.{statement}
+use Rattle.satisfaction.proofs.agreement.expansion.w_primes_agree.Tie as tie
 
 abbrev Inv-loop : tie.InvT-loop
 Inv-loop assignment w x j₀ j =
-    (j ≤ 64) × ((i : ℕ) → i < j → Agrees (w .0 + 32 * i) 32 (wordWires (pairWord x i)) assignment)
+    (j ≤ 64) × ((i : ℕ) → i < j → Agrees (w .0 + 32 * i) 32 (wordWires (wPrime x i)) assignment)
 
 abbrev μ-loop : tie.MeasureT-loop
 μ-loop assignment w x j₀ j = 64 - j
@@ -49,7 +49,7 @@ returns : tie.Need-returns Inv-loop μ-loop
 returns c =
     let l = c .before .before .before .before .before .before in
     let x = l .before .before .args .x .now in
-    (omega arith, agrees-rows (l .loop .j) (λ j. wordWires (pairWord x j)) (l .loop .inv .1))
+    (omega arith, agrees-rows (l .loop .j) (λ j. wordWires (wPrime x j)) (l .loop .inv .1))
 
 add-j : tie.Need-add-j Inv-loop μ-loop
 add-j c = search needs
@@ -58,7 +58,7 @@ loop-less : tie.Need-loop-less Inv-loop μ-loop
 loop-less c = search needs
 
 loop-again : tie.Need-loop-again Inv-loop μ-loop
-unfolding pairWord
+unfolding wPrime
 loop-again c =
     let l = c .before .before .before .before .before .before in
     (omega arith, below-more _ _ (l .loop .inv .1) (c .before .word-agrees .ensures (not-false _ (c .if1 .left))))
@@ -66,10 +66,10 @@ loop-again c =
 returns-2 : tie.Need-returns-2 Inv-loop μ-loop
 returns-2 c =
     let x = c .before .before .before .args .x .now in
-    (omega arith, agrees-rows 64 (λ j. wordWires (pairWord x j)) (λ j l. c .before .loop .inv .1 j (omega arith)))
+    (omega arith, agrees-rows 64 (λ j. wordWires (wPrime x j)) (λ j l. c .before .loop .inv .1 j (omega arith)))
 
-pub pairs-agree-spec : {M : Type 1} → statement M
-pairs-agree-spec =
+pub w-primes-agree-spec : {M : Type 1} → statement M
+w-primes-agree-spec =
     tie.close
     (tie.spec
     Inv-loop
