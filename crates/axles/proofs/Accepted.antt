@@ -11,8 +11,8 @@ use Rattle.circuit.specs.declared.circuits.Circuit.the-variants.{Axles}
 use Rattle.refusal.proofs.Tests.{not-iff, past}
 use Rattle.refusal.specs.declared.outcome.Outcome.the-variants.{Done, Refused}
 use Rattle.refusal.specs.declared.outcome.Refusal.the-variants.{BoundsOutOfRange}
-use Rattle.satisfaction.proofs.Acceptance as circuit
-use Rattle.satisfaction.proofs.Acceptance.{Accepts}
+use Rattle.acceptance.proofs.Acceptance as circuit
+use Rattle.acceptance.proofs.Acceptance.{Accepts}
 
 pub accepted-iff : (lower upper : ℕ) (d a : List ℕ)
     → (axlesCheckAnswer lower upper d a ≡ Done) ↔ (Allowed (Axles lower upper) × Accepts (Axles lower upper) d a)

@@ -40,8 +40,8 @@ use Rattle.record.proofs.exact.Record.{read-off, readOff}
 use Rattle.record.proofs.exact.WireBits.{beside-bits, judged-wires, wire-lt}
 use Rattle.record.specs.Layout.{wireOf}
 use Rattle.refusal.specs.declared.outcome.Outcome.the-variants.{Done}
-use Rattle.satisfaction.proofs.Acceptance.{Accepts, judged-entries}
-use Rattle.satisfaction.proofs.Whole as whole
+use Rattle.acceptance.proofs.Acceptance.{Accepts, judged-entries}
+use Rattle.acceptance.proofs.Whole as whole
 use Rattle.sm3.specs.Message.{digestBytes}
 
 -- the entries of the record's wires

@@ -3,7 +3,7 @@ use mathlib.Core.Path.{fun-ext}
 use Rattle.axles.specs.Check.{axlesCheckAnswer}
 use Rattle.axles.specs.Former.{AxlesAnswerUnaltered, formerAxlesAnswer}
 use Rattle.circuit.specs.declared.circuits.Circuit.the-variants.{Axles}
-use Rattle.satisfaction.proofs.Unaltered.{same-answer}
+use Rattle.acceptance.proofs.Unaltered.{same-answer}
 
 pub axles-answer-unaltered : AxlesAnswerUnaltered
 unfolding axlesCheckAnswer formerAxlesAnswer

@@ -7,7 +7,7 @@ use Rattle.circuit.specs.declared.circuits.Circuit.the-variants.{Axles}
 use Rattle.refusal.specs.declared.outcome.Outcome.the-variants.{Refused}
 use Rattle.refusal.specs.declared.outcome.Outcome.{Outcome}
 use Rattle.refusal.specs.declared.outcome.Refusal.the-variants.{BoundsOutOfRange}
-use Rattle.satisfaction.specs.Check.{circuitCheck}
+use Rattle.acceptance.specs.Check.{circuitCheck}
 
 -- the check of an assignment between two bounds against a digest: 18, then 5, 6, 20, 7, 8 and 9, which are those of every circuit
 unfoldable pub axlesCheckAnswer : ℕ → ℕ → List ℕ → List ℕ → Outcome

@@ -9,7 +9,7 @@ use Rattle.circuit.specs.declared.circuits.Circuit.the-variants.{Axles}
 use Rattle.refusal.specs.declared.outcome.Outcome.the-variants.{Refused}
 use Rattle.refusal.specs.declared.outcome.Outcome.{Outcome}
 use Rattle.refusal.specs.declared.outcome.Refusal.the-variants.{BoundsOutOfRange}
-use Rattle.satisfaction.specs.Former.{formerCheck}
+use Rattle.acceptance.specs.Former.{formerCheck}
 
 unfoldable pub formerAxlesAnswer : ℕ → ℕ → List ℕ → List ℕ → Outcome
 formerAxlesAnswer lower upper digest assignment =

@@ -21,7 +21,7 @@ use Rattle.figures.specs.Figures.{Figure, table}
 use Rattle.forms.specs.Coefficients.{signed}
 use Rattle.listing.specs.Line.{parseOf}
 use Rattle.listing.specs.Request.{checked, requestOf, within}
-use Rattle.satisfaction.specs.Check.{circuitCheck}
+use Rattle.acceptance.specs.Check.{circuitCheck}
 use Rattle.sm3.specs.Sm3.{P0, P1, constant, rotatedConstant}
 use Rattle.sm3.specs.Words.{rotateLeft}
 use Rattle.text.specs.Decimal.{isDigit}

@@ -8,6 +8,7 @@ ghost use Rattle.encoding.specs.Bits.{bytesOfBits};
 ghost use Rattle.encoding.specs.Packed.{packedBytes, packedLength};
 ghost use Rattle.encoding.specs.Written.{Written};
 ghost use Rattle.packing.specs.Pack.{bitsAnswer, packAnswer, packLeft};
+use agreement::word_read::number_from;
 use assignment::bounded::Lowest;
 use assignment::bounded::below_prime;
 use assignment::bounded::lowest_not_below;
@@ -20,7 +21,6 @@ use limits::limit::ask_length;
 use refusal::numbers::WireNumber;
 use refusal::outcome::Outcome;
 use refusal::outcome::Refusal;
-use satisfaction::word_read::number_from;
 
 // Refusal 20, or else 10, for the lowest of the first n entries that calls for it, if there is one. Bits are below the prime, so the
 // entries of an honest assignment are read through only once.

@@ -14,8 +14,8 @@ use Rattle.record.specs.Check.{checkAnswer}
 use Rattle.refusal.specs.declared.numbers.RowNumber.{RowNumber}
 use Rattle.refusal.specs.declared.outcome.Outcome.the-variants.{Done, Refused}
 use Rattle.refusal.specs.declared.outcome.Refusal.the-variants.{Unsatisfied}
-use Rattle.satisfaction.proofs.Acceptance as circuit
-use Rattle.satisfaction.proofs.Acceptance.{Accepts}
+use Rattle.acceptance.proofs.Acceptance as circuit
+use Rattle.acceptance.proofs.Acceptance.{Accepts}
 use Rattle.satisfaction.specs.Lowest.{LowestFailing}
 
 module _ (l n : ℕ) (d a : List ℕ) where

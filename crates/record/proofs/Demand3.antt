@@ -31,8 +31,8 @@ use Rattle.record.specs.Demand3.{Demand3, IsAccepted}
 use Rattle.record.specs.Layout.{wireOf}
 use Rattle.record.specs.Produce.{assignmentOf, produceAnswer, produceLeft}
 use Rattle.refusal.specs.declared.outcome.Outcome.the-variants.{Done}
-use Rattle.satisfaction.proofs.Acceptance.{Accepts, judged-entries}
-use Rattle.satisfaction.proofs.Whole as whole
+use Rattle.acceptance.proofs.Acceptance.{Accepts, judged-entries}
+use Rattle.acceptance.proofs.Whole as whole
 use Rattle.sm3.specs.Message.{digestBytes}
 
 -- The assignment that is written from a record.

@@ -23,8 +23,8 @@ use Rattle.refusal.proofs.Small.{tested}
 use Rattle.refusal.specs.Refusals.{outcomeNumber}
 use Rattle.refusal.specs.declared.outcome.Outcome.the-variants.{Done, Refused}
 use Rattle.refusal.specs.declared.outcome.Refusal.the-variants.{BufferTooShort}
-use Rattle.satisfaction.proofs.circuit_check.Answers.{check-holds}
-use Rattle.satisfaction.specs.Check.{circuitCheck}
+use Rattle.acceptance.proofs.circuit_check.Answers.{check-holds}
+use Rattle.acceptance.specs.Check.{circuitCheck}
 
 given-other : (C : Circuit) (k room : ℕ) → Other (rowNumber (givenRow C k room))
 unfolding givenRow counted

@@ -5,7 +5,7 @@ use Rattle.circuit.specs.declared.circuits.Circuit.the-variants.{Record}
 use Rattle.limits.proofs.Limited.{ours-length}
 use Rattle.record.specs.Check.{checkAnswer}
 use Rattle.record.specs.Former.{AnswerUnaltered, formerAnswer}
-use Rattle.satisfaction.proofs.Unaltered.{same-answer}
+use Rattle.acceptance.proofs.Unaltered.{same-answer}
 
 pub answer-unaltered : AnswerUnaltered
 unfolding checkAnswer formerAnswer

@@ -18,7 +18,7 @@ use Rattle.record.specs.RowAnswer.{rowAnswer}
 use Rattle.record.specs.WholeBytes.{WholeBytes}
 use Rattle.refusal.specs.declared.outcome.Outcome.the-variants.{Done, Refused}
 use Rattle.refusal.specs.declared.outcome.Refusal.the-variants.{BufferTooShort, LengthOutOfRange}
-use Rattle.satisfaction.specs.Check.{circuitCheck}
+use Rattle.acceptance.specs.Check.{circuitCheck}
 use Rattle.sm3.proofs.WholeBytes.{padded-message, whole-bytes, whole-handed}
 use Rattle.sm3.specs.Message.{chainingValue, digestOf}
 use Rattle.sm3.specs.WholeBytes.{mostBytes}

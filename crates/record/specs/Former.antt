@@ -11,7 +11,7 @@ use Rattle.record.specs.Check.{checkAnswer}
 use Rattle.refusal.specs.declared.outcome.Outcome.the-variants.{Refused}
 use Rattle.refusal.specs.declared.outcome.Outcome.{Outcome}
 use Rattle.refusal.specs.declared.outcome.Refusal.the-variants.{LengthOutOfRange}
-use Rattle.satisfaction.specs.Former.{formerCheck}
+use Rattle.acceptance.specs.Former.{formerCheck}
 
 unfoldable pub formerAnswer : ℕ → List ℕ → List ℕ → Outcome
 formerAnswer n digest assignment = cond (ltb mostBits n) (Refused LengthOutOfRange) (formerCheck (Record n) digest assignment)

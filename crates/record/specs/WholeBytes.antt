@@ -22,7 +22,7 @@ use Rattle.record.specs.Produce.{produceAnswer}
 use Rattle.record.specs.RowAnswer.{rowAnswer}
 use Rattle.refusal.specs.declared.outcome.Outcome.the-variants.{Done, Refused}
 use Rattle.refusal.specs.declared.outcome.Refusal.the-variants.{BufferTooShort, DigestNot32, DigestWire, LengthOutOfRange, RowOutOfRange, WireZero, WrongLength}
-use Rattle.satisfaction.specs.Check.{afterRows, same}
+use Rattle.acceptance.specs.Check.{afterRows, same}
 use Rattle.satisfaction.specs.Lowest.{lowest}
 use Rattle.sm3.specs.Message.{chainingValue}
 use Rattle.sm3.specs.WholeBytes.{blocksOfBytes, mostBytes, paddedBytes}

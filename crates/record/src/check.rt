@@ -1,10 +1,10 @@
 // The check of an assignment against a digest.
 ghost use mathlib.Core.Path.{_≡_};
 ghost use Rattle.record.specs.Check.{checkAnswer};
+use acceptance::circuit_check::check_circuit;
 use circuit::circuits::Circuit;
 use limits::limit::ask_length;
 use refusal::outcome::Outcome;
-use satisfaction::circuit_check::check_circuit;
 
 // The check of an assignment for a record of so many bits against a digest.
 pub fn check(limit: u64, bits: u64, digest: &[u8], assignment: &[u8]) -> Outcome

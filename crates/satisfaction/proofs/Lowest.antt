@@ -1,10 +1,9 @@
 -- The lowest row that is not satisfied is the lowest place at which the test of a row fails, so the laws of such a place are laws
 -- of that row; and a verdict tells whether there is one.
 use mathlib.Core.Bool.{false, true}
-use mathlib.Core.Logic.{_↔_, by-cases}
-use mathlib.Core.Path.{_≡_, ap, subst, sym}
+use mathlib.Core.Logic.{_↔_}
+use mathlib.Core.Path.{_≡_, ap, subst}
 use Prim.Native.Nat.{ℕ, suc, _+_, _-_, _<_, _≤_}
-use native.Mathlib.Decide.{decLt}
 use native.Mathlib.Omega.{arith}
 use Rattle.encoding.proofs.Lowest as failing
 use Rattle.forms.specs.Rows.{Row, Satisfied, holds}
@@ -35,28 +34,11 @@ module _ (a : ℕ → ℕ) (rows : ℕ → Row) where
       let same : i ≡ j .0 = omega (arith, ap named e) in
       subst (LowestFailing a rows k (k + m)) same low)
 
-  -- of no row none fails
-  pub lowest-none : (k : ℕ) → lowest a rows k 0 ≡ AllSatisfied
-  lowest-none k = lowest-all k 0 .1 (λ i l h. absurd (omega arith))
-
-  -- where m rows from k on hold and n after them, all do
-  pub lowest-then : (k m n : ℕ) → lowest a rows k m ≡ AllSatisfied → lowest a rows (k + m) n ≡ AllSatisfied
-      → lowest a rows k (m + n) ≡ AllSatisfied
-  lowest-then k m n first rest =
-      lowest-all k (m + n) .1
-      (λ i l h.
-      by-cases (decLt i (k + m)) (λ before. lowest-all k m .0 first i l before)
-      (λ past. lowest-all (k + m) n .0 rest i (omega arith) (omega arith)))
-
-  -- the same rows, by another name of their first
-  pub lowest-from : (m : ℕ) {j k : ℕ} → j ≡ k → lowest a rows k m ≡ AllSatisfied → lowest a rows j m ≡ AllSatisfied
-  lowest-from m e h = subst (λ i. lowest a rows i m ≡ AllSatisfied) (sym e) h
-
   -- of the rows from k on and below n, m hold: the lowest is one after them
   module _ (n k m : ℕ) (l : k + m ≤ n) where
-    pub lowest-past : lowest a rows k m ≡ AllSatisfied → lowest a rows k (n - k) ≡ lowest a rows (k + m) (n - (k + m))
+    pub lowest-past : ((i : ℕ) → k ≤ i → i < k + m → Satisfied a (rows i)) → lowest a rows k (n - k) ≡ lowest a rows (k + m) (n - (k + m))
     unfolding lowest
-    lowest-past e = failing.lowest-past _ _ AllSatisfied n k m l (failing.none-all _ _ AllSatisfied apart k m e)
+    lowest-past = failing.lowest-past _ _ AllSatisfied n k m l
 
 -- The lowest of the rows from k on, of n in all.
 module _ (a : ℕ → ℕ) (rows : ℕ → Row) (n k : ℕ) where

@@ -1,6 +1,2 @@
-pub mod Agrees
-pub mod Check
-pub mod Former
 pub mod Lowest
-pub mod Reached
 pub mod Sums

@@ -1,7 +1,3 @@
-// Rows held against an assignment: which of them it satisfies.
-pub mod agreement;
-pub mod blocks_check;
-pub mod circuit_check;
+// Rows judged by their terms: the loop that finds the lowest row that an assignment does not satisfy.
 pub mod rows_check;
 pub mod sums;
-pub mod word_read;

@@ -9,7 +9,6 @@ ghost use Rattle.circuit.specs.Places.{rowCount};
 ghost use Rattle.circuit.specs.Ranges.{Allowed};
 ghost use Rattle.circuit.specs.Wires.{wireCount};
 ghost use Rattle.satisfaction.specs.Lowest.{lowest};
-use crate::blocks_check::rows_held;
 use crate::sums::Sums;
 use crate::sums::add_term;
 use crate::sums::part_product;
@@ -20,6 +19,7 @@ use circuit::row::unsorted_terms;
 use forms::buffer::term_at;
 use forms::terms::TERM_ROOM;
 use refusal::numbers::RowNumber;
+use runs::held::rows_held;
 use sm3::constants::rotated_constants;
 
 // What rows make of an assignment.

@@ -38,7 +38,7 @@ use Rattle.refusal.proofs.Small.{Small, bare, done-small, room-small, tested}
 use Rattle.refusal.proofs.Tests.{not-iff}
 use Rattle.refusal.specs.declared.outcome.Outcome.the-variants.{Refused}
 use Rattle.refusal.specs.declared.outcome.Outcome.{Outcome}
-use Rattle.satisfaction.proofs.circuit_check.Answers.{check-small}
+use Rattle.acceptance.proofs.circuit_check.Answers.{check-small}
 use Rattle.sm3.specs.Digest.{digestAnswer}
 use Rattle.sm3rows.specs.Small.{SmallRow}
 

@@ -8,7 +8,7 @@ use Rattle.limits.specs.Limit.{lengthAnswer}
 use Rattle.record.specs.Check.{checkAnswer}
 use Rattle.refusal.proofs.Small.{Small, bare}
 use Rattle.refusal.specs.declared.outcome.Outcome.the-variants.{Refused}
-use Rattle.satisfaction.proofs.circuit_check.Answers as circuit
+use Rattle.acceptance.proofs.circuit_check.Answers as circuit
 
 pub check-small : (l n : ℕ) (d a : List ℕ) → Small (checkAnswer l n d a)
 unfolding checkAnswer lengthAnswer

@@ -9,8 +9,8 @@ use Rattle.encoding.proofs.Bytes.{length-highest-first}
 use Rattle.encoding.proofs.Written.{length-written, written-as, written-before, written-none}
 use Rattle.encoding.specs.Written.{Written}
 use Rattle.packing.proofs.WordBytes.{all-words, no-words, one-word-more, wordsFrom}
-use Rattle.satisfaction.proofs.Agreeing.{bits-lt}
-use Rattle.satisfaction.specs.Agrees.{Bits}
+use Rattle.agreement.proofs.Agreeing.{bits-lt}
+use Rattle.agreement.specs.Agrees.{Bits}
 use Rattle.packing.proofs.pack.put_words.Statement.{statement}
 use Rattle.packing.proofs.pack.put_words.Tie as tie
 

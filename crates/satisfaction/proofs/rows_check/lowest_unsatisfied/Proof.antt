@@ -67,7 +67,7 @@ rows-again : tie.Need-rows-again Inv-loop μ-loop Inv-rows μ-rows
 rows-again c =
     let held = c .before .rows-held .ensures in
     let inv = c .before .before .before .before .rows .inv in
-    record { within = held .0; room = inv .room; lower = inv .lower ∙ lowest-past _ _ _ _ _ (held .0) (held .1) }
+    record { within = held .0; room = inv .room; lower = inv .lower ∙ lowest-past _ _ _ _ _ (held .0) (held .1 .each) }
 
 slice-aggregate-unsorted-terms :
     tie.Need-slice-aggregate-unsorted-terms Inv-loop μ-loop Inv-rows μ-rows

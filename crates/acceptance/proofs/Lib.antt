@@ -1,0 +1,3 @@
+pub mod Acceptance
+pub mod Unaltered
+pub mod Whole

@@ -1,0 +1,3 @@
+pub mod MessageRows
+pub mod Reached
+pub mod RowsHold

@@ -1,2 +1,0 @@
-pub mod BlockHolds
-pub mod StartHolds
