@@ -12,6 +12,9 @@ use forms::position::rotated;
 use forms::position::word_from;
 use refusal::numbers::WireNumber;
 
+// How many wires a block has.
+pub const BLOCK_WIRES: u64 = 22528;
+
 // Where q, P1(q) and Wj begin in a block, for j from 16 on: after its 512 bits.
 pub const EXPANSION: u64 = 512;
 

@@ -12,8 +12,8 @@ ghost use Rattle.forms.specs.declared.form.Form.the-variants.{Bit};
 use crate::axles::AXLE_BITS;
 use crate::axles::axle_form;
 use crate::message::MessageSpan;
-use crate::wire::BLOCK_WIRES;
 use crate::wire::FIRST_BLOCK;
+use block::wire::BLOCK_WIRES;
 use forms::form::Form;
 use refusal::numbers::WireNumber;
 

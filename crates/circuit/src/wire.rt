@@ -9,6 +9,7 @@ use crate::circuits::Circuit;
 use crate::circuits::appended_wires;
 use crate::circuits::block_count;
 use crate::message::MessageSpan;
+use block::wire::BLOCK_WIRES;
 use block::wire::RESULT;
 use refusal::numbers::WireNumber;
 
@@ -20,9 +21,6 @@ pub const START: u64 = 257;
 
 // The first wire of block 0.
 pub const FIRST_BLOCK: u64 = 513;
-
-// How many wires a block has.
-pub const BLOCK_WIRES: u64 = 22528;
 
 // How many wires a circuit has.
 pub fn wire_count(circuit: Circuit) -> u64

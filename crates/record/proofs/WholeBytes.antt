@@ -6,6 +6,7 @@ use mathlib.Core.Path.{_∙_, ap, ap₂}
 use Prim.Native.Nat.{_*_}
 use lib.Dec.{ltb}
 use lib.ListN.{length}
+use Rattle.block.specs.MessageWires.{messageWires}
 use Rattle.circuit.proofs.WholeBytes as circuit
 use Rattle.circuit.specs.GivenRow.{givenRow}
 use Rattle.circuit.specs.Wires.{frameWires}
@@ -13,7 +14,7 @@ use Rattle.circuit.specs.declared.given_row.RowAnswer.the-variants as row
 use Rattle.circuit.specs.declared.given_row.RowAnswer.{RowAnswer}
 use Rattle.limits.proofs.Limited.{ours-length, ours-stand}
 use Rattle.record.specs.Check.{checkAnswer}
-use Rattle.record.specs.Layout.{messageWires, wireOf}
+use Rattle.record.specs.Layout.{wireOf}
 use Rattle.record.specs.RowAnswer.{rowAnswer}
 use Rattle.record.specs.WholeBytes.{WholeBytes}
 use Rattle.refusal.specs.declared.outcome.Outcome.the-variants.{Done, Refused}

@@ -8,6 +8,7 @@ use lib.Dec.{eqb, leb, ltb}
 use lib.ListN.{length}
 use Rattle.assignment.specs.Assignment.{entry}
 use Rattle.assignment.specs.BelowPrime.{belowPrimeAnswer}
+use Rattle.block.specs.MessageWires.{messageWires}
 use Rattle.circuit.specs.Circuit.{rowAt}
 use Rattle.circuit.specs.GivenRow.{counted}
 use Rattle.circuit.specs.WholeBytes.{rowsOfBytes, wiresOfBytes}
@@ -17,7 +18,7 @@ use Rattle.circuit.specs.declared.given_row.RowAnswer.the-variants as row
 use Rattle.encoding.specs.Bits.{bitOfBytes}
 use Rattle.limits.specs.Limit.{ourLimit}
 use Rattle.record.specs.Check.{checkAnswer}
-use Rattle.record.specs.Layout.{messageWires, wireOf}
+use Rattle.record.specs.Layout.{wireOf}
 use Rattle.record.specs.Produce.{produceAnswer}
 use Rattle.record.specs.RowAnswer.{rowAnswer}
 use Rattle.refusal.specs.declared.outcome.Outcome.the-variants.{Done, Refused}

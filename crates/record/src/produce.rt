@@ -1,65 +1,48 @@
 // The whole assignment of a record, into a lent buffer.
+ghost use mathlib.Core.List.{List};
 ghost use mathlib.Core.Path.{_≡_};
-ghost use Prim.Native.Nat.{_*_, _≤_};
+ghost use Prim.Native.Nat.{ℕ, _+_, _*_, _≤_};
 ghost use lib.ListN.{length};
 ghost use Rattle.assignment.specs.Wrote.{Wrote};
-ghost use Rattle.block.specs.Wires.{wiresPerBlock};
-ghost use Rattle.circuit.specs.Wires.{wireCount, firstBlock};
+ghost use Rattle.circuit.specs.Wires.{firstBlock, frameWires, wireCount};
 ghost use Rattle.circuit.specs.declared.circuits.Circuit.the-variants.{Record};
 ghost use Rattle.encoding.specs.Bits.{bitOfBytes};
 ghost use Rattle.encoding.specs.Packed.{packedLength};
-ghost use Rattle.limits.specs.Blocks.{blocks, mostBits};
-ghost use Rattle.record.specs.Layout.{messageWires, wireOf};
+ghost use Rattle.limits.specs.Blocks.{mostBits};
+ghost use Rattle.record.specs.Layout.{wireOf};
 ghost use Rattle.record.specs.Produce.{produceAnswer, produceLeft};
-ghost use Rattle.sm3.specs.Message.{digestOf, message};
-use assignment::block_wires::put_block;
+use assignment::message_wires::put_message;
 use assignment::wires::put_entry;
 use assignment::wires::put_state;
 use circuit::circuits::Circuit;
 use circuit::wire::DIGEST;
+use circuit::wire::FIRST_BLOCK;
 use circuit::wire::START;
-use circuit::wire::block_first;
 use circuit::wire::wire_count;
-use limits::blocks::block_count;
 use limits::handed::ask_record;
 use refusal::numbers::WireNumber;
 use refusal::outcome::Outcome;
 use refusal::outcome::Refusal;
-use sm3::constants::rotated_constants;
 use sm3::constants::start_state;
-use sm3::message::message_words;
 use sm3::state::State;
 
-// The message's blocks, one at a time, each with the state that the one before it left, and the last one's: the digest.
-fn put_message(out: &mut [u8], bits: u64, bytes: &[u8]) -> State
-    requires { ⌜ (bits ≤ mostBits) × (length (now bytes) ≡ packedLength bits) × (8 * wireCount (Record bits) ≤ length (now out)) ⌝ }
-    ensures { λ r. ⌜ r ≡ digestOf bits (bitOfBytes (now (bytes .entry))) ⌝ }
-    ensures { λ _. ⌜ Wrote firstBlock (wiresPerBlock * blocks bits) (messageWires (message bits (bitOfBytes (now (bytes .entry))))) (now (out .entry)) (now (out .exit)) ⌝ }
+// What stands before the blocks: the start words, the digest and wire 0. The digest comes from the blocks, so they are written by then.
+pub fn put_frame(out: &mut [u8], digest: State)
+    requires { ⌜ 8 * firstBlock ≤ length (now out) ⌝ }
+    ensures { λ _. ⌜ ((before : List ℕ) (n : ℕ) (rest : ℕ → ℕ) → Wrote firstBlock n rest before (now (out .entry)) → Wrote 0 (firstBlock + n) (frameWires digest rest) before (now (out .exit))) ⌝ }
 {
-    let n = block_count(bits);
-    let t = rotated_constants();
-    let mut v = start_state();
-    for i in 0..n {
-        v = put_block(
-            out,
-            block_first(i),
-            v,
-            message_words(bits, bytes, i as usize),
-            &t,
-        );
-    }
-    v
+    put_state(out, WireNumber(START), start_state());
+    put_state(out, WireNumber(DIGEST), digest);
+    put_entry(out, WireNumber(0), 1);
 }
 
-// All wires of a record. The digest stands before the blocks that it comes from, so they are written from the last on.
+// All wires of a record.
 pub fn put_assignment(out: &mut [u8], bits: u64, bytes: &[u8])
     requires { ⌜ (bits ≤ mostBits) × (length (now bytes) ≡ packedLength bits) × (8 * wireCount (Record bits) ≤ length (now out)) ⌝ }
     ensures { λ _. ⌜ Wrote 0 (wireCount (Record bits)) (wireOf bits (bitOfBytes (now (bytes .entry)))) (now (out .entry)) (now (out .exit)) ⌝ }
 {
-    let digest = put_message(out, bits, bytes);
-    put_state(out, WireNumber(START), start_state());
-    put_state(out, WireNumber(DIGEST), digest);
-    put_entry(out, WireNumber(0), 1);
+    let digest = put_message(out, WireNumber(FIRST_BLOCK), bits, bytes);
+    put_frame(out, digest);
 }
 
 // The assignment of a record of so many bits, and of no more blocks than the limit, into the first bytes of `out`.

@@ -13,7 +13,8 @@ use Rattle.circuit.specs.declared.circuits.Circuit.the-variants.{Record}
 use Rattle.encoding.proofs.Sequence.{beside-first, beside-then, grid-at}
 use Rattle.forms.proofs.exact.Runs.{Agree}
 use Rattle.limits.specs.Blocks.{blocks}
-use Rattle.record.specs.Layout.{messageWires, recordWire, wireOf}
+use Rattle.block.specs.MessageWires.{messageWires}
+use Rattle.record.specs.Layout.{recordWire, wireOf}
 use Rattle.sm3.proofs.message.MessageBits.{message-content, message-padding}
 use Rattle.sm3.specs.Message.{blockBits, chainingValue, digestOf, message}
 

@@ -23,7 +23,8 @@ use Rattle.forms.proofs.exact.Runs.{Agree, Holds, Judged, and-given}
 use Rattle.forms.proofs.exact.Words.{bit-row}
 use Rattle.limits.specs.Blocks.{blocks}
 use Rattle.record.proofs.exact.Record.{read-off, readOff, record-wire, wires-congruent}
-use Rattle.record.specs.Layout.{messageWires, wireOf}
+use Rattle.block.specs.MessageWires.{messageWires}
+use Rattle.record.specs.Layout.{wireOf}
 use Rattle.sm3.specs.Message.{blockBits, chainingValue, digestOf, message}
 use Rattle.sm3.specs.Sm3.{start}
 

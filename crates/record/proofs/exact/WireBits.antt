@@ -11,7 +11,8 @@ use Rattle.encoding.proofs.Sequence.{beside-first}
 use Rattle.encoding.specs.Sequence.{beside, grid}
 use Rattle.forms.proofs.exact.Runs.{Judged}
 use Rattle.forms.specs.WordWires.{carryWires, sumWires, wordWires}
-use Rattle.record.specs.Layout.{messageWires, wireOf}
+use Rattle.block.specs.MessageWires.{messageWires}
+use Rattle.record.specs.Layout.{wireOf}
 use Rattle.sm3.proofs.Bits.{bit-lt}
 use Rattle.sm3.proofs.Bounds.{message-lt}
 use Rattle.sm3.specs.Message.{blockBits}

@@ -1,25 +1,24 @@
 -- Before block i the state is what the message's blocks so far have come to, and their wires are written.
 use mathlib.Core.List.{List}
-use mathlib.Core.Path.{_≡_, _∙_, ap, sym}
+use mathlib.Core.Path.{_≡_, _∙_, ap, refl, sym}
 use Prim.Native.Nat.{ℕ, _+_, _-_, _*_, _≤_}
 use native.Mathlib.Numerals.{add-one}
 use native.Mathlib.Omega.{arith}
 use borrow.Author.Needs.{needs}
 use Rattle.assignment.proofs.Writes.{length-wrote, wrote-as, wrote-none, wrote-row}
 use Rattle.assignment.specs.Wrote.{Wrote}
 use Rattle.block.specs.BlockWires.{blockWires}
+use Rattle.block.specs.MessageWires.{messageWires}
 use Rattle.block.specs.Wires.{wiresPerBlock}
-use Rattle.circuit.specs.Wires.{wireCount, firstBlock}
 use Rattle.encoding.proofs.Bits.{bit-of-bytes-lt}
 use Rattle.encoding.specs.Bits.{bitOfBytes}
 use Rattle.encoding.specs.Sequence.{grid}
 use Rattle.limits.specs.Blocks.{blocks}
-use Rattle.record.specs.Layout.{messageWires}
 use Rattle.sm3.proofs.Bounds.{message-lt}
 use Rattle.sm3.specs.Message.{blockBits, chainingValue, digestOf, message}
 use Rattle.sm3.specs.Sm3.{block}
-use Rattle.record.proofs.produce.put_message.Statement.{statement}
-use Rattle.record.proofs.produce.put_message.Tie as tie
+use Rattle.assignment.proofs.message_wires.put_message.Statement.{statement}
+use Rattle.assignment.proofs.message_wires.put_message.Tie as tie
 
 -- the record's message, and its block wires
 abbrev messageOf : ℕ → List ℕ → ℕ → ℕ
@@ -29,11 +28,11 @@ abbrev wires : (ℕ → ℕ) → ℕ → ℕ
 wires m = grid wiresPerBlock (λ i. blockWires (blockBits m i) (chainingValue m i))
 
 abbrev Inv-loop : tie.InvT-loop
-Inv-loop out₀ bits bytes n t v₀ i₀ out v i =
-    (i ≤ n) × (v ≡ chainingValue (messageOf bits bytes) i) × Wrote firstBlock (wiresPerBlock * i) (wires (messageOf bits bytes)) out₀ out
+Inv-loop out₀ first bits bytes n t v₀ i₀ out v i =
+    (i ≤ n) × (v ≡ chainingValue (messageOf bits bytes) i) × Wrote (first .0) (wiresPerBlock * i) (wires (messageOf bits bytes)) out₀ out
 
 abbrev μ-loop : tie.MeasureT-loop
-μ-loop out₀ bits bytes n t v₀ i₀ out v i = n - i
+μ-loop out₀ first bits bytes n t v₀ i₀ out v i = n - i
 
 block-count-requires : tie.Need-block-count-requires Inv-loop μ-loop
 block-count-requires c κs = search needs
@@ -48,21 +47,24 @@ loop-holds : tie.Need-loop-holds Inv-loop μ-loop
 unfolding chainingValue
 loop-holds c = (omega arith, c .start-state .ensures, wrote-none _ _ _)
 
-block-first-requires : tie.Need-block-first-requires Inv-loop μ-loop
+mul-t13 : tie.Need-mul-t13 Inv-loop μ-loop
 unfolding blocks
-block-first-requires c κs = omega arith
+mul-t13 c = omega arith
+
+add-t14 : tie.Need-add-t14 Inv-loop μ-loop
+unfolding blocks
+add-t14 c = omega (arith, c .before .before .before .before .before .before .before .before .before)
 
 message-words-requires : tie.Need-message-words-requires Inv-loop μ-loop
 unfolding blocks
 message-words-requires c κs = search needs
 
 put-block-requires : tie.Need-put-block-requires Inv-loop μ-loop
-unfolding blocks wireCount
 put-block-requires c κs =
     let l = c .before .before .before .before .before in
     let constants = l .before .before in
     let start = constants .before .before .before .before in
-    (constants .rotated-constants .ensures, omega (arith, start, length-wrote (l .loop .inv .2), c .before .before .block-first .ensures .0))
+    (constants .rotated-constants .ensures, omega (arith, start, constants .before .block-count .ensures, length-wrote (l .loop .inv .2)))
 
 add-i : tie.Need-add-i Inv-loop μ-loop
 add-i c = search needs
@@ -83,7 +85,7 @@ loop-again c =
     (c .before .before .before .before .message-words .ensures .1) in (
       omega arith,
       put .0 ∙ ap (block (blockBits m i)) (l .loop .inv .1) ∙ ap (chainingValue m) (sym (add-one i)),
-      wrote-row (λ i. blockWires (blockBits m i) (chainingValue m i)) i _ (c .before .before .before .before .before .block-first .ensures .0) (l .loop .inv .2)
+      wrote-row (λ i. blockWires (blockBits m i) (chainingValue m i)) i _ refl (l .loop .inv .2)
           (wrote-as (ap (blockWires (blockBits m i)) (l .loop .inv .1)) (put .1)),
     )
 
@@ -108,7 +110,8 @@ put-message-spec =
     rotated-constants-requires
     start-state-requires
     loop-holds
-    block-first-requires
+    mul-t13
+    add-t14
     message-words-requires
     put-block-requires
     add-i
