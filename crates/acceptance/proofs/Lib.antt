@@ -1,3 +1,3 @@
 pub mod Acceptance
+pub mod Exact
 pub mod Unaltered
-pub mod Whole

@@ -1,2 +1,3 @@
 pub mod exact
 pub mod shape
+pub mod StateBytes

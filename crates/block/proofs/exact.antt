@@ -3,3 +3,4 @@ pub mod BlockExpansion
 pub mod BlockRounds
 pub mod FirstRows
 pub mod States
+pub mod WireBits

@@ -1,4 +1,2 @@
-pub mod AllBlocks
 pub mod Frame
-pub mod Messages
-pub mod Series
+pub mod FrameWires

@@ -6,6 +6,5 @@ pub mod Frame
 pub mod GivenRow
 pub mod Places
 pub mod Ranges
-pub mod Series
 pub mod WholeBytes
 pub mod Wires

@@ -10,7 +10,7 @@ use native.Mathlib.Omega.{arith}
 use lib.Dec.{lit<}
 use lib.ListN.{getD, length}
 use Rattle.encoding.proofs.Bits.{bit-of-byte, bit-of-bytes-lt, number-cong, number-of-bits, number-zero, zero-bits}
-use Rattle.encoding.proofs.ByteBits.{bit-of-bits, bytes-ext, bytes-of-bits, length-bytes-of-bits}
+use Rattle.encoding.proofs.ByteBits.{bit-of-bits, bytes-ext, bytes-of-bits, bytes-of-bits-congruent, length-bytes-of-bits}
 use Rattle.encoding.proofs.Sequence.{beside-first, beside-then}
 use Rattle.encoding.specs.Bits.{bitOfBytes, number}
 use Rattle.encoding.specs.Bytes.{Bytes}
@@ -20,6 +20,17 @@ use Rattle.encoding.specs.Packed.{packedBytes, packedLength, spareBits}
 pub length-packed : (n : ℕ) (s : ℕ → ℕ) → length (packedBytes n s) ≡ packedLength n
 unfolding packedBytes
 length-packed n s = length-bytes-of-bits (packedLength n) _
+
+-- n bits alone are packed
+pub packed-congruent : (n : ℕ) (s t : ℕ → ℕ) → ((k : ℕ) → k < n → s k ≡ t k) → packedBytes n s ≡ packedBytes n t
+unfolding packedBytes
+packed-congruent n s t same =
+    bytes-of-bits-congruent (packedLength n) _ _
+    (λ k l.
+    by-cases (decLt k n) (λ below. beside-first n s _ k below ∙ same k below ∙ sym (beside-first n t _ k below))
+    (λ past.
+    let place : n + (k - n) ≡ k = omega arith in
+    subst (λ i. beside n s (λ k. 0) i ≡ beside n t (λ k. 0) i) place (beside-then n s _ (k - n) ∙ sym (beside-then n t _ (k - n)))))
 
 module _ (n : ℕ) (s : ℕ → ℕ) (bits : (w : ℕ) → w < n → s w < 2) where
   all-bits : (k : ℕ) → beside n s (λ k. 0) k < 2

@@ -6,6 +6,7 @@ use mathlib.Core.Logic.{_↔_}
 use mathlib.Core.Path.{_≡_, _∙_, ap, sym}
 use Prim.Native.Nat.{ℕ, _<_, _≤_}
 use lib.ListN.{length}
+use Rattle.acceptance.proofs.Exact.{assigned-wires}
 use Rattle.assignment.proofs.Entries.{entries-bytes}
 use Rattle.assignment.specs.Assignment.{entry}
 use Rattle.circuit.specs.Wires.{wireCount}
@@ -23,7 +24,7 @@ use Rattle.packing.proofs.Answers.{check-done}
 use Rattle.packing.proofs.RoundTrip.{entry-of-unpacked, unpacked-packed}
 use Rattle.packing.specs.Packed.{unpackedBytes}
 use Rattle.packing.specs.PackedCheck.{PackedExact, packedCheckAnswer}
-use Rattle.record.proofs.Demand3.{assigned-wires, demand3}
+use Rattle.record.proofs.Demand3.{demand3, record-layout}
 use Rattle.record.proofs.exact.WireBits.{wire-lt}
 use Rattle.record.specs.Check.{checkAnswer}
 use Rattle.record.specs.Layout.{wireOf}
@@ -65,7 +66,7 @@ module _ (n : ℕ) (d p : List ℕ) (range : n ≤ mostBits) (digest : Bytes d) 
           same,
           sym
               (packed-known wires (wiresOf n r) (wires-bits n r) p bytes (passed .1 .0) (passed .1 .1 .0)
-              (λ w l. sym (entry-of-unpacked wires p w l) ∙ ap (λ a. entry a w) whole ∙ assigned-wires n r w l)),
+              (λ w l. sym (entry-of-unpacked wires p w l) ∙ ap (λ a. entry a w) whole ∙ assigned-wires (record-layout n) r is w l)),
         ),
     λ (r, is, same, packed).
         check-done n d p .1 (

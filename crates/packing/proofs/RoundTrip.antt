@@ -6,6 +6,7 @@ use mathlib.Core.Path.{_≡_, _∙_, refl, subst, sym}
 use Prim.Native.Nat.{ℕ, _*_, _<_, _≤_}
 use native.Mathlib.Omega.{arith}
 use lib.ListN.{length}
+use Rattle.acceptance.proofs.Exact.{accepted-bits}
 use Rattle.assignment.proofs.Entries.{bytes-of-entries, entry-written, length-entries}
 use Rattle.assignment.proofs.Writes.{entries-congruent}
 use Rattle.assignment.specs.Assignment.{entry, entryBytes}
@@ -22,8 +23,7 @@ use Rattle.packing.specs.Packed.{unpackedBytes}
 use Rattle.packing.specs.RoundTrip.{RoundTrip, packs, unpacks}
 use Rattle.packing.specs.Unpack.{unpackAnswer}
 use Rattle.record.proofs.Accepted.{accepted-iff}
-use Rattle.record.proofs.Demand3.{accepted-wires}
-use Rattle.record.proofs.exact.WireBits.{wire-lt}
+use Rattle.record.proofs.Demand3.{record-layout}
 use Rattle.record.specs.Demand3.{IsAccepted}
 use Rattle.refusal.specs.declared.outcome.Outcome.the-variants.{Done}
 
@@ -79,19 +79,8 @@ module _ (l n : ℕ) (q out : List ℕ) (bytes : Bytes q) (done : unpackAnswer l
 accepted-packs : (l n : ℕ) (d a : List ℕ) (room : ℕ) → IsAccepted l n d a → packedLength (wireCount (Record n)) ≤ room
     → packAnswer l n a room ≡ Done
 accepted-packs l n d a room accepted fits =
-    let accepts = accepted-iff l n d a .0 accepted in
-    let passed = accepts .1 .passed in
-    pack-done l n a room .1 (
-      accepts .0,
-      (
-        fits,
-        (
-          passed .assignment-length,
-          λ w below.
-              subst (λ x. x < 2) (sym (accepted-wires l n d a accepted w below)) (wire-lt n _ (λ k h. omega arith) w),
-        ),
-      ),
-    )
+    let (allowed, accepts) = accepted-iff l n d a .0 accepted in
+    pack-done l n a room .1 (allowed, (fits, (accepts .passed .assignment-length, accepted-bits (record-layout n) accepts)))
 
 pub round-trip : RoundTrip
 round-trip =

@@ -2,38 +2,40 @@
 -- block's message rows fix the padding and leave the record's bits free; its other rows are the block's, which begins with the
 -- start words or with the results of the block before it. The digest rows copy the last results, and nothing is appended.
 use mathlib.Core.Logic.{_↔_, Iff·symm, Iff·trans}
-use mathlib.Core.Path.{_≡_, _∙_, ap, fun-ext, refl, subst, sym}
+use mathlib.Core.Path.{_≡_, _∙_, ap, refl, subst, sym}
 use Prim.Native.Nat.{ℕ, _+_, _-_, _*_, _%_, _<_}
-use native.Mathlib.Nat.{sub-zero}
 use native.Mathlib.Omega.{arith}
-use Rattle.block.specs.BlockWires.{blockWires, stateWires}
+use Rattle.block.specs.BlockWires.{stateWires}
+use Rattle.block.specs.MessageWires.{messageWires}
 use Rattle.block.specs.Steps.{blockRows}
 use Rattle.block.specs.Wires.{wiresPerBlock}
 use Rattle.circuit.proofs.exact.Frame.{blockRowsOf, digest-run, rows-apart, start-run, wires-apart}
-use Rattle.circuit.proofs.exact.Series.{series-blocks, series-result, series-run}
+use Rattle.series.proofs.Series.{series-blocks, series-message, series-result, series-run}
 use Rattle.circuit.proofs.place.PlaceRange.{message-blocks}
 use Rattle.circuit.specs.Circuit.{digestForm, formAt}
 use Rattle.circuit.specs.Circuits.{appendedForm, appendedRows}
 use Rattle.circuit.specs.Places.{rowCount}
-use Rattle.circuit.specs.Series.{seriesBegins, seriesBits, seriesWires}
+use Rattle.series.specs.Series.{seriesWires}
 use Rattle.circuit.specs.Wires.{blockFirst, digestFirst, firstBlock, startFirst, wireCount}
 use Rattle.circuit.specs.declared.circuits.Circuit.the-variants.{Record}
+use Rattle.encoding.proofs.Sequence.{each-same}
 use Rattle.encoding.specs.Sequence.{grid}
 use Rattle.forms.proofs.exact.Runs.{Agree, Holds, Judged, and-given}
 use Rattle.forms.proofs.exact.Words.{bit-row}
 use Rattle.limits.specs.Blocks.{blocks}
 use Rattle.record.proofs.exact.Record.{read-off, readOff, record-wire, wires-congruent}
-use Rattle.block.specs.MessageWires.{messageWires}
 use Rattle.record.specs.Layout.{wireOf}
-use Rattle.sm3.specs.Message.{blockBits, chainingValue, digestOf, message}
+use Rattle.sm3.specs.Message.{digestOf, message}
 use Rattle.sm3.specs.Sm3.{start}
 
 -- the blocks of a record are a series of one message
-series : (n : ℕ) (r : ℕ → ℕ) → seriesWires (Record n) (λ i. r) ≡ messageWires (message n r)
-unfolding seriesWires seriesBits seriesBegins messageWires
-series n r =
-    ap (grid wiresPerBlock)
-    (fun-ext (λ i. ap (λ (j : ℕ). blockWires (blockBits (message n r) j) (chainingValue (message n r) j)) (sub-zero i)))
+series : (a : ℕ → ℕ) (n : ℕ) (r : ℕ → ℕ) → Agree a firstBlock (wiresPerBlock * blocks n) (seriesWires (Record n) (λ i. r))
+    ↔ Agree a firstBlock (wiresPerBlock * blocks n) (messageWires (message n r))
+series a n r =
+    each-same (λ k v. a (firstBlock + k) ≡ v) (wiresPerBlock * blocks n) (λ k. k) _ _
+    (λ k l.
+    let first : k ≡ wiresPerBlock * 0 + k = omega arith in
+    ap (seriesWires (Record n) (λ i. r)) first ∙ series-message (Record n) (λ i. r) (record { bits = n; begin = 0 }) r (λ i b e. (refl, refl)) k l)
 
 module _ (a : ℕ → ℕ) (J : Judged a) (n : ℕ) where
   -- the message that is read off
@@ -43,8 +45,7 @@ module _ (a : ℕ → ℕ) (J : Judged a) (n : ℕ) where
   blocks-hold : Agree a startFirst 256 (stateWires start)
       → (Holds a (blockRows * blocks n) (grid blockRows (blockRowsOf (Record n))) ↔ Agree a firstBlock (wiresPerBlock * blocks n) (messageWires read))
   blocks-hold begin =
-      subst (λ (s : ℕ → ℕ). Holds a (blockRows * blocks n) (grid blockRows (blockRowsOf (Record n))) ↔ Agree a firstBlock (wiresPerBlock * blocks n) s)
-      (series n (readOff a))
+      Iff·trans
       (series-run (Record n) (λ i. readOff a) a J begin (λ i l k h. omega arith)
       (λ i l later. record { begun = omega arith; message = refl; content = refl })
       (λ i l earlier k h inside.
@@ -52,15 +53,14 @@ module _ (a : ℕ → ℕ) (J : Judged a) (n : ℕ) where
       let same : readOff a (512 * (i - 0) + k) ≡ a (blockFirst i + k) % 2 =
       ap (readOff a) bit ∙ ap (λ w. a w % 2) (record-wire i k h) in
       Iff·trans (bit-row a J (blockFirst i + k)) (omega arith, omega arith)))
+      (series a n (readOff a))
 
   digest-hold : Agree a firstBlock (wiresPerBlock * blocks n) (messageWires read)
       → (Holds a 256 (grid 32 (digestForm (blockFirst (blocks n - 1)))) ↔ Agree a digestFirst 256 (stateWires (digestOf n (readOff a))))
   digest-hold e =
       digest-run a J (blockFirst (blocks n - 1)) (digestOf n (readOff a))
       (series-result (Record n) (λ i. readOff a) a J (blocks n - 1) (omega (arith, message-blocks n)) (omega (arith, message-blocks n))
-      (λ i l.
-      series-blocks (Record n) (λ i. readOff a) a J
-      (subst (Agree a firstBlock (wiresPerBlock * blocks n)) (sym (series n (readOff a))) e) i (omega (arith, message-blocks n))))
+      (λ i l. series-blocks (Record n) (λ i. readOff a) a J (series a n (readOff a) .1 e) i (omega (arith, message-blocks n))))
 
 -- all wires, of which none are appended
 record-wires : (n : ℕ) (a r : ℕ → ℕ) → Agree a 0 (wireCount (Record n)) (wireOf n r)
@@ -98,7 +98,3 @@ some-record n a J = (
       circuit n a J .1
       (subst (Agree a 0 (wireCount (Record n))) (wires-congruent n r (readOff a) (λ k l. sym (read-off n a r bits agree k l))) agree),
 )
-
--- where the wires agree, the digest wires among them have the digest
-pub digest-agrees : (n : ℕ) (a r : ℕ → ℕ) → Agree a 0 (wireCount (Record n)) (wireOf n r) → Agree a digestFirst 256 (stateWires (digestOf n r))
-digest-agrees n a r e = record-wires n a r .0 e .1 .0

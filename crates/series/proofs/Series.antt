@@ -3,21 +3,23 @@
 -- their wires are the messages'.
 use mathlib.Core.Logic.{_↔_}
 use mathlib.Core.Path.{_≡_, _∙_, ap, ap₂, subst, sym}
-use Prim.Native.Nat.{ℕ, zero, suc, _+_, _-_, _*_, _<_}
+use Prim.Native.Nat.{ℕ, zero, suc, _+_, _-_, _*_, _/_, _%_, _<_, _≤_}
 use native.Mathlib.Omega.{arith}
-use Rattle.block.specs.BlockWires.{stateWires}
+use Rattle.block.specs.BlockWires.{blockWires, stateWires}
+use Rattle.block.specs.MessageWires.{messageWires}
 use Rattle.block.specs.Steps.{blockRows}
 use Rattle.block.specs.Wires.{resultAt, wiresPerBlock}
 use Rattle.block.specs.declared.step.Step.the-variants.{Message}
-use Rattle.circuit.proofs.exact.AllBlocks.{HasEarlier, block-of, block-result, blocks-run}
+use Rattle.series.proofs.AllBlocks.{HasEarlier, block-of, block-result, blocks-run}
 use Rattle.circuit.proofs.exact.Frame.{blockRowsOf}
-use Rattle.circuit.proofs.exact.Messages.{begun, message-run}
+use Rattle.series.proofs.Messages.{begun, message-run}
 use Rattle.circuit.specs.Circuit.{begins, formOf, messageBit}
 use Rattle.circuit.specs.Circuits.{blockCount, contentForm, messageOf}
-use Rattle.circuit.specs.Series.{seriesBegins, seriesBits, seriesWires}
+use Rattle.series.specs.Series.{seriesBegins, seriesBits, seriesWires}
 use Rattle.circuit.specs.Wires.{blockFirst, firstBlock, startFirst}
 use Rattle.circuit.specs.declared.circuits.Circuit.{Circuit}
 use Rattle.circuit.specs.declared.message.MessageSpan.{MessageSpan}
+use Rattle.encoding.proofs.Sequence.{grid-at}
 use Rattle.encoding.specs.Sequence.{grid}
 use Rattle.forms.proofs.exact.Runs.{Agree, Holds, Judged}
 use Rattle.forms.specs.Rows.{Satisfied, rowOf}
@@ -97,3 +99,25 @@ module _ (C : Circuit) (r : ℕ → ℕ → ℕ) (a : ℕ → ℕ) (J : Judged a
   pub series-blocks : Agree a firstBlock (wiresPerBlock * c) (seriesWires C r) → HasEarlier a B b c
   unfolding seriesWires
   series-blocks agree = block-of a B b c agree
+
+-- where the blocks of the message m have the content s, their wires are the message's
+pub series-message : (C : Circuit) (r : ℕ → ℕ → ℕ) (m : MessageSpan) (s : ℕ → ℕ)
+    → ((i : ℕ) → m .begin ≤ i → i < m .begin + blocks (m .bits) → (messageOf C i ≡ m) × (r i ≡ s))
+    → (k : ℕ) → k < wiresPerBlock * blocks (m .bits) → seriesWires C r (wiresPerBlock * m .begin + k) ≡ messageWires (message (m .bits) s) k
+unfolding seriesWires seriesBits seriesBegins messageWires
+series-message C r m s same k l =
+    let i : ℕ = k / wiresPerBlock in
+    let j : ℕ = k % wiresPerBlock in
+    let place : wiresPerBlock * m .begin + k ≡ wiresPerBlock * (m .begin + i) + j = omega arith in
+    let whole : wiresPerBlock * i + j ≡ k = omega arith in
+    let past : m .begin + i - m .begin ≡ i = omega arith in
+    let at = same (m .begin + i) (omega arith) (omega arith) in
+    ap (seriesWires C r) place
+    ∙ grid-at wiresPerBlock _ (m .begin + i) j (omega arith)
+    ∙ ap₂
+    (λ (m′ : MessageSpan) (t : ℕ → ℕ).
+    blockWires (blockBits (message (m′ .bits) t) (m .begin + i - m′ .begin)) (chainingValue (message (m′ .bits) t) (m .begin + i - m′ .begin)) j)
+    (at .0) (at .1)
+    ∙ ap (λ (x : ℕ). blockWires (blockBits (message (m .bits) s) x) (chainingValue (message (m .bits) s) x) j) past
+    ∙ sym (grid-at wiresPerBlock _ i j (omega arith))
+    ∙ ap (messageWires (message (m .bits) s)) whole

@@ -11,12 +11,12 @@ use Rattle.block.proofs.exact.States.{CarriesState, carries-eight}
 use Rattle.block.specs.BlockWires.{stateWires}
 use Rattle.block.specs.Wires.{eightFrom, resultAt}
 use Rattle.block.specs.declared.step.Step.the-variants.{Message}
-use Rattle.circuit.proofs.exact.AllBlocks.{HasEarlier, block-result}
+use Rattle.series.proofs.AllBlocks.{HasEarlier, block-result}
 use Rattle.circuit.specs.Circuit.{begins, formOf, messageBit, messageForm}
 use Rattle.circuit.specs.Circuits.{contentForm, messageOf}
 use Rattle.circuit.specs.Wires.{blockFirst, startFirst}
 use Rattle.circuit.specs.declared.circuits.Circuit.{Circuit}
 use Rattle.circuit.specs.declared.message.MessageSpan.{MessageSpan}
 use Rattle.encoding.proofs.Sequence.{each-iff}
 use Rattle.encoding.specs.Sequence.{grid}
 use Rattle.forms.proofs.exact.Runs.{Agree, Holds, Judged}

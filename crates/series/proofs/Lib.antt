@@ -1,0 +1,3 @@
+pub mod AllBlocks
+pub mod Messages
+pub mod Series
