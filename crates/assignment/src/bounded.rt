@@ -21,11 +21,12 @@ pub enum Lowest {
 }
 
 // The lowest of the entries from `from` on and below `to` that is not below the limit, if there is one: they are asked in their order.
-fn lowest_asked(assignment: &[u8], from: u64, to: u64, limit: u64) -> Lowest
-    requires { ⌜ (from ≤ to) × (8 * to ≤ length (now assignment)) ⌝ }
-    ensures { λ r. ⌜ r ≡ lowestNotBelow limit (now (assignment .entry)) from (to - from) ⌝ }
+fn lowest_asked(assignment: &[u8], from: WireNumber, to: WireNumber, limit: u64) -> Lowest
+    requires { ⌜ (from .0 ≤ to .0) × (8 * to .0 ≤ length (now assignment)) ⌝ }
+    ensures { λ r. ⌜ r ≡ lowestNotBelow limit (now (assignment .entry)) (from .0) (to .0 - from .0) ⌝ }
 {
-    for w in from..to {
+    let end = to.0;
+    for w in from.0..end {
         if limit <= read(assignment, WireNumber(w)) {
             return Lowest::NotBelow(WireNumber(w));
         }
@@ -34,11 +35,11 @@ fn lowest_asked(assignment: &[u8], from: u64, to: u64, limit: u64) -> Lowest
 }
 
 // The same. Where all of them put together are below the limit none has to be asked.
-fn lowest_in_run(assignment: &[u8], from: u64, to: u64, limit: u64) -> Lowest
-    requires { ⌜ (from ≤ to) × (8 * to ≤ length (now assignment)) ⌝ }
-    ensures { λ r. ⌜ r ≡ lowestNotBelow limit (now (assignment .entry)) from (to - from) ⌝ }
+fn lowest_in_run(assignment: &[u8], from: WireNumber, to: WireNumber, limit: u64) -> Lowest
+    requires { ⌜ (from .0 ≤ to .0) × (8 * to .0 ≤ length (now assignment)) ⌝ }
+    ensures { λ r. ⌜ r ≡ lowestNotBelow limit (now (assignment .entry)) (from .0) (to .0 - from .0) ⌝ }
 {
-    if seen_from(assignment, WireNumber(from), to - from) < limit {
+    if seen_from(assignment, from, to.0 - from.0) < limit {
         return Lowest::AllBelow;
     }
     lowest_asked(assignment, from, to, limit)
@@ -54,12 +55,17 @@ pub fn lowest_not_below(assignment: &[u8], n: u64, limit: u64) -> Lowest
 {
     let runs = n / RUN;
     for j in 0..runs {
-        let lowest = lowest_in_run(assignment, RUN * j, RUN * (j + 1), limit);
+        let lowest = lowest_in_run(
+            assignment,
+            WireNumber(RUN * j),
+            WireNumber(RUN * (j + 1)),
+            limit,
+        );
         if let Lowest::NotBelow(wire) = lowest {
             return Lowest::NotBelow(wire);
         }
     }
-    lowest_in_run(assignment, RUN * runs, n, limit)
+    lowest_in_run(assignment, WireNumber(RUN * runs), WireNumber(n), limit)
 }
 
 // Refusal 20 for the lowest of the first n entries that is p or more, if there is one.

@@ -39,14 +39,14 @@ pub fn bounds_in_range(lower: u64, upper: u64) -> bool
 }
 
 // The digit of a byte: its low half.
-fn digit_of(byte: u64) -> Digits
-    requires { ⌜ byte < 1000 ⌝ }
-    ensures { λ r. ⌜ r ≡ digitOf byte ⌝ }
+fn digit_of(byte: WireNumber) -> Digits
+    requires { ⌜ byte .0 < 1000 ⌝ }
+    ensures { λ r. ⌜ r ≡ digitOf (byte .0) ⌝ }
 {
     Digits {
-        units: WireNumber(byte + 4),
+        units: WireNumber(byte.0 + 4),
         two: false,
-        tens: WireNumber(byte + 4),
+        tens: WireNumber(byte.0 + 4),
     }
 }
 
@@ -62,12 +62,12 @@ fn axle_digits() -> Digits
 }
 
 // Line l of the high half of a digit's byte, which is 3.
-fn high_half(byte: u64, l: u64) -> Form
-    requires { ⌜ (byte < 1000) × (l < 4) ⌝ }
-    ensures { λ f. ⌜ (f ≡ highHalf byte l) × Fit f ⌝ }
+fn high_half(byte: WireNumber, l: u64) -> Form
+    requires { ⌜ (byte .0 < 1000) × (l < 4) ⌝ }
+    ensures { λ f. ⌜ (f ≡ highHalf (byte .0) l) × Fit f ⌝ }
 {
     Form::Fixed {
-        w: WireNumber(byte + l),
+        w: WireNumber(byte.0 + l),
         bit: (3 >> (3 - l)) % 2,
     }
 }
@@ -77,20 +77,22 @@ pub fn axle_form(lower: u64, upper: u64, k: u64) -> Form
     requires { ⌜ (2 ≤ lower) × (lower ≤ upper) × (upper ≤ 99) × (k < 34) ⌝ }
     ensures { λ f. ⌜ (f ≡ axleForm lower upper k) × Fit f ⌝ }
 {
+    let tens = WireNumber(TENS_BYTE);
+    let units = WireNumber(UNITS_BYTE);
     if k < 4 {
-        return high_half(TENS_BYTE, k);
+        return high_half(tens, k);
     }
     let k = k - 4;
     if k < 4 {
-        return high_half(UNITS_BYTE, k);
+        return high_half(units, k);
     }
     let k = k - 4;
     if k < 5 {
-        return subtracted(digit_of(TENS_BYTE), false, 9, 4, WireNumber(TENS_LEFT), k);
+        return subtracted(digit_of(tens), false, 9, 4, WireNumber(TENS_LEFT), k);
     }
     let k = k - 5;
     if k < 5 {
-        return subtracted(digit_of(UNITS_BYTE), false, 9, 4, WireNumber(UNITS_LEFT), k);
+        return subtracted(digit_of(units), false, 9, 4, WireNumber(UNITS_LEFT), k);
     }
     let k = k - 5;
     if k < 8 {

@@ -9,11 +9,11 @@ use Rattle.assignment.proofs.bounded.lowest_asked.Statement.{statement}
 use Rattle.assignment.proofs.bounded.lowest_asked.Tie as tie
 
 abbrev Inv-loop : tie.InvT-loop
-Inv-loop assignment from to limit w₀ w =
-    (w ≤ to) × (lowestNotBelow limit assignment from (to - from) ≡ lowestNotBelow limit assignment w (to - w))
+Inv-loop assignment limit end w₀ w =
+    (w ≤ end) × (lowestNotBelow limit assignment w₀ (end - w₀) ≡ lowestNotBelow limit assignment w (end - w))
 
 abbrev μ-loop : tie.MeasureT-loop
-μ-loop assignment from to limit w₀ w = to - w
+μ-loop assignment limit end w₀ w = end - w
 
 loop-holds : tie.Need-loop-holds Inv-loop μ-loop
 loop-holds c = (omega arith, refl)

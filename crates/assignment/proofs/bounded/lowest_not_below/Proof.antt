@@ -27,14 +27,14 @@ abbrev μ-loop : tie.MeasureT-loop
 loop-holds : tie.Need-loop-holds Inv-loop μ-loop
 loop-holds c = (omega arith, ap (lowestNotBelow _ _ 0) (sym (sub-zero _)))
 
-mul-lowest-in-run : tie.Need-mul-lowest-in-run Inv-loop μ-loop
-mul-lowest-in-run c = search needs
+mul-t9 : tie.Need-mul-t9 Inv-loop μ-loop
+mul-t9 c = search needs
 
-add-lowest-in-run : tie.Need-add-lowest-in-run Inv-loop μ-loop
-add-lowest-in-run c = search needs
+add-t11 : tie.Need-add-t11 Inv-loop μ-loop
+add-t11 c = search needs
 
-mul-lowest-in-run-2 : tie.Need-mul-lowest-in-run-2 Inv-loop μ-loop
-mul-lowest-in-run-2 c = search needs
+mul-t12 : tie.Need-mul-t12 Inv-loop μ-loop
+mul-t12 c = search needs
 
 lowest-in-run-requires : tie.Need-lowest-in-run-requires Inv-loop μ-loop
 lowest-in-run-requires c κs = search needs
@@ -72,8 +72,8 @@ loop-again c =
           ∙ ap (λ k. lowestNotBelow (a .limit) (a .assignment .now) k (a .n - k)) (next-run (l .j)),
     )
 
-mul-lowest-in-run-3 : tie.Need-mul-lowest-in-run-3 Inv-loop μ-loop
-mul-lowest-in-run-3 c = search needs
+mul-t14 : tie.Need-mul-t14 Inv-loop μ-loop
+mul-t14 c = search needs
 
 lowest-in-run-requires-2 : tie.Need-lowest-in-run-requires-2 Inv-loop μ-loop
 lowest-in-run-requires-2 c κs = search needs
@@ -92,9 +92,9 @@ lowest-not-below-spec =
     Inv-loop
     μ-loop
     loop-holds
-    mul-lowest-in-run
-    add-lowest-in-run
-    mul-lowest-in-run-2
+    mul-t9
+    add-t11
+    mul-t12
     lowest-in-run-requires
     enum-known-lowest
     returns
@@ -102,6 +102,6 @@ lowest-not-below-spec =
     add-j
     loop-less
     loop-again
-    mul-lowest-in-run-3
+    mul-t14
     lowest-in-run-requires-2
     returns-2)
