@@ -1,4 +1,5 @@
-// Runs of rows that hold because of what their wires are: the start rows, those of a block, those of the digest.
+// Runs of rows that hold because of what their wires are: the start rows, those of a block, those of the digest, those of the
+// appendix.
 ghost use mathlib.Core.Bool.{true};
 ghost use mathlib.Core.Path.{_≡_};
 ghost use Prim.Native.Nat.{ℕ, _+_, _-_, _*_, _<_, _≤_};
@@ -13,6 +14,7 @@ ghost use Rattle.circuit.specs.Wires.{blockFirst, digestFirst, wireCount};
 ghost use Rattle.encoding.specs.Sequence.{tab};
 ghost use Rattle.runs.specs.RowsHold.{RowsHold};
 ghost use Rattle.sm3.specs.Sm3.{rotatedConstant};
+use crate::appended::appended_passed;
 use crate::block_rows::rows_passed;
 use agreement::wires::state_agrees;
 use assignment::entry::read;
@@ -45,7 +47,7 @@ fn digest_copied(circuit: Circuit, assignment: &[u8]) -> bool
 }
 
 // How many rows from `row` on hold because of what their wires are. Only where a run of rows begins is it asked: at the first start row,
-// the first row of a block and the first of the digest.
+// the first row of a block, the first of the digest and the first of the appendix.
 pub fn rows_held(circuit: Circuit, row: RowNumber, assignment: &[u8], constants: &[u32; 64]) -> u64
     requires { ⌜ Allowed circuit × (length (now assignment) ≡ 8 * wireCount circuit) × (entry (now assignment) 0 ≡ 1) × BelowPrime (now assignment) × (now constants ≡ tab 64 rotatedConstant) × (row .0 < rowCount circuit) ⌝ }
     ensures { λ r. ⌜ (row .0 + r ≤ rowCount circuit) × RowsHold circuit (row .0) r (now (assignment .entry)) ⌝ }
@@ -59,19 +61,22 @@ pub fn rows_held(circuit: Circuit, row: RowNumber, assignment: &[u8], constants:
     if row.0 < STATE_ROWS {
         return 0;
     }
-    let i = (row.0 - STATE_ROWS) / BLOCK_ROWS;
-    if row.0 != STATE_ROWS + BLOCK_ROWS * i {
-        return 0;
-    }
-    let blocks = block_count(circuit);
-    if i < blocks {
+    let digest = STATE_ROWS + BLOCK_ROWS * block_count(circuit);
+    if row.0 < digest {
+        let i = (row.0 - STATE_ROWS) / BLOCK_ROWS;
+        if row.0 != STATE_ROWS + BLOCK_ROWS * i {
+            return 0;
+        }
         return rows_passed(circuit, i, assignment, constants);
     }
-    if i != blocks {
+    if row.0 == digest {
+        if digest_copied(circuit, assignment) {
+            return STATE_ROWS;
+        }
         return 0;
     }
-    if digest_copied(circuit, assignment) {
-        return STATE_ROWS;
+    if row.0 == digest + STATE_ROWS {
+        return appended_passed(circuit, assignment);
     }
     0
 }

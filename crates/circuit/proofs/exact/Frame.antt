@@ -97,6 +97,16 @@ digest-row C some k l =
     ∙ beside-then (blockRows * blockCount C) _ _ k
     ∙ beside-first 256 _ _ k l
 
+-- an appended row
+pub appended-row : (C : Circuit) → 0 < blockCount C → (k : ℕ) → k < appendedRows C
+    → formAt C (256 + (blockRows * blockCount C + (256 + k))) ≡ appendedForm C k
+unfolding frameLayout formOf rowCount
+appended-row C some k l =
+    form-at C some (256 + (blockRows * blockCount C + (256 + k))) (omega arith)
+    ∙ beside-then 256 _ _ (blockRows * blockCount C + (256 + k))
+    ∙ beside-then (blockRows * blockCount C) _ _ (256 + k)
+    ∙ beside-then 256 _ _ k
+
 pub wires-apart : (a : ℕ → ℕ) (c : ℕ) (S : State) (rest : ℕ → ℕ) → Agree a 0 (firstBlock + c) (frameWires S rest)
     ↔ (Agree a 0 1 (λ k. 1)
     × (Agree a digestFirst 256 (stateWires S) × (Agree a startFirst 256 (stateWires start) × Agree a firstBlock c rest)))

@@ -47,7 +47,7 @@ unfolding wireCount
 content-apart (Record n) h i b l k inside = omega arith
 content-apart (Axles lower upper) h i b l k inside = omega arith
 
-appended-apart : (C : Circuit) → Allowed C → (k : ℕ) → k < appendedRows C → Apart (wireCount C) (appendedForm C k)
+pub appended-apart : (C : Circuit) → Allowed C → (k : ℕ) → k < appendedRows C → Apart (wireCount C) (appendedForm C k)
 appended-apart (Record n) h k l = absurd (omega arith)
 appended-apart (Axles lower upper) h k l = axle-apart lower upper h k l
 
