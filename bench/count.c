@@ -1,6 +1,7 @@
 /* Calls to be counted by bench/count.sh, which builds and runs this: `count SIDE BITS CALLS [FEATURE]` makes so many calls
  * of one side for a record of so many bits; OpenSSL and libgcrypt take whole bytes alone, and a passage line has one length,
- * whatever the bits. libgcrypt leaves the processor's feature of that name aside. */
+ * whatever the bits. libgcrypt leaves the processor's feature of that name aside. The side `check@WIRE` is the check of an
+ * assignment whose entry of that wire is turned over. */
 
 #include <stdint.h>
 #include <stdlib.h>
@@ -73,6 +74,12 @@ static void by_c_unpack(uint64_t bits)
 static void by_check(uint64_t bits)
 {
     go_on(sm3rows_check(LIMIT, bits, digest, sizeof digest, (uint8_t *)assignment, SM3ROWS_ASSIGNMENT_BYTES(bits)));
+}
+
+static void by_check_of_turned(uint64_t bits)
+{
+    if (SM3ROWS_REFUSAL(sm3rows_check(LIMIT, bits, digest, sizeof digest, (uint8_t *)assignment, SM3ROWS_ASSIGNMENT_BYTES(bits))) != 9)
+        exit(EXIT_FAILURE);
 }
 
 static void by_read(uint64_t bits)
@@ -152,6 +159,15 @@ static const struct {
              {"axles-produce", by_axles_produce},
              {"axles-check", by_axles_check}};
 
+/* Turns over the entry of the wire that a side's name ends in. */
+static void turn_over(uint64_t bits, const char *wire)
+{
+    uint64_t at = strtoull(wire, NULL, 10);
+    if (at >= SM3ROWS_WIRES(bits))
+        exit(EXIT_FAILURE);
+    assignment[at] ^= 1;
+}
+
 int main(int count, char **arguments)
 {
     if (count < 4 || (count > 4 && gcry_control(GCRYCTL_DISABLE_HWF, arguments[4], NULL) != 0))
@@ -170,6 +186,11 @@ int main(int count, char **arguments)
     by_pack(bits);
     by_seal(bits); /* for the check of a line, and its digest for that of its axles */
     by_axles_produce(bits);
+    if (strncmp(arguments[1], "check@", 6) == 0) {
+        turn_over(bits, arguments[1] + 6);
+        for (int call = 0; call < calls; call++)
+            by_check_of_turned(bits);
+    }
     for (size_t side = 0; side < sizeof sides / sizeof *sides; side++)
         if (strcmp(sides[side].name, arguments[1]) == 0)
             for (int call = 0; call < calls; call++)

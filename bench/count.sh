@@ -1,7 +1,8 @@
 #!/bin/sh
 # Counts by cachegrind, which no busy machine disturbs: the instructions of a digest on each side, those of records that end
 # inside a byte beside those of whole bytes, those of the producer's blocks with the lines that are missed by caches as
-# large as this machine's first two, those of packing, those of a passage line, and those of its axles between two bounds.
+# large as this machine's first two, those of a check of right assignments and of ones with an entry turned over, those of
+# packing, those of a passage line, and those of its axles between two bounds.
 # SM3ROWS_LIB and PASSAGE_LIB name the archives; without them, they are those that `rt staticlib sm3rows` and
 # `rt staticlib passage_c` write.
 set -eu
@@ -82,6 +83,16 @@ for blocks in 1 2 4 8 16; do
     call produce "$((512 * blocks - 72))" |
         awk -v n="$blocks" '{ printf "%6d %13.0f %20.0f %14.0f\n", n, $1 / n, $2 / n, $3 / n }'
 done
+echo "instructions of a check: bits, the wire whose entry is turned over"
+for bits in 0 440 504 8127; do
+    call check "$bits" | awk -v bits="$bits" '{ printf "%6d %8s %11.0f\n", bits, "none", $1 }'
+done
+# start words, padding, a round and the result of one block; the last entries of two and of sixteen
+for pair in "440 512" "440 1024" "440 22700" "440 23040" "504 45568" "8127 360960"; do
+    call "check@${pair#* }" "${pair% *}" | awk -v bits="${pair% *}" -v wire="${pair#* }" '{ printf "%6d %8d %11.0f\n", bits, wire, $1 }'
+done
+echo "instructions of a row and of all rows of a record, 504 bits"
+call row 504 | awk '{ printf "%.1f %.0f\n", $1 / (512 + 32320 * 2), $1 }'
 echo "instructions of a wire, 1 block 16 blocks"
 for side in pack c-pack unpack c-unpack; do
     { call "$side" 440; call "$side" 8120; } | awk -v side="$side" '
