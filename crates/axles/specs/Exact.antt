@@ -26,17 +26,18 @@ use Rattle.record.specs.Layout.{recordWire}
 use Rattle.refusal.specs.declared.outcome.Outcome.the-variants.{Done}
 use Rattle.sm3.specs.Message.{digestBytes}
 
-abbrev pub IsAccepted : ℕ → ℕ → List ℕ → List ℕ → Type 0
-IsAccepted lower upper d a = axlesCheckAnswer lower upper d a ≡ Done
+-- accepted between two bounds against a digest: the check of these returns no refusal
+abbrev pub IsAcceptedBetween : ℕ → ℕ → List ℕ → List ℕ → Type 0
+IsAcceptedBetween lower upper d a = axlesCheckAnswer lower upper d a ≡ Done
 
 pub record AxlesExact : Type 0 where
   -- "Wires are again unique, between assignments accepted under the same bounds": those that have the same bytes on the record wires are
   -- the same
-  pub unique : (lower upper : ℕ) (d₁ d₂ a₁ a₂ : List ℕ) → Bytes a₁ → Bytes a₂ → IsAccepted lower upper d₁ a₁ → IsAccepted lower upper d₂ a₂
+  pub unique : (lower upper : ℕ) (d₁ d₂ a₁ a₂ : List ℕ) → Bytes a₁ → Bytes a₂ → IsAcceptedBetween lower upper d₁ a₁ → IsAcceptedBetween lower upper d₂ a₂
       → ((k : ℕ) → k < axleBits → wireBytes a₁ (recordWire k) ≡ wireBytes a₂ (recordWire k)) → a₁ ≡ a₂
   -- accepted exactly when some record of 63 bytes has this digest, lies in the band and has this assignment, byte for byte
   pub exact : (lower upper : ℕ) (d a : List ℕ) → boundsInRange lower upper ≡ true → Bytes d → Bytes a
-      → (IsAccepted lower upper d a
+      → (IsAcceptedBetween lower upper d a
       ↔ ((r : List ℕ)
       × IsRecord axleBits r
       × (digestBytes axleBits r ≡ d)
@@ -45,7 +46,7 @@ pub record AxlesExact : Type 0 where
   -- what the producer leaves is accepted against the record's digest
   pub produced : (lower upper : ℕ) (r out : List ℕ) → boundsInRange lower upper ≡ true → IsRecord axleBits r → InBand lower upper r
       → 8 * wireCount (Axles lower upper) ≤ length out
-      → IsAccepted lower upper (digestBytes axleBits r)
+      → IsAcceptedBetween lower upper (digestBytes axleBits r)
       (take (8 * wireCount (Axles lower upper)) (axlesProduceLeft (axlesProduceAnswer lower upper r (length out)) lower upper r out))
   -- every row has the shape of document 01's rows
   pub shape : (lower upper k : ℕ) → boundsInRange lower upper ≡ true → k < rowCount (Axles lower upper)
