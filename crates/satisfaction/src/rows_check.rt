@@ -15,10 +15,12 @@ use crate::sums::part_product;
 use crate::sums::term_value;
 use circuit::circuits::Circuit;
 use circuit::place::row_count;
-use circuit::row::unsorted_terms;
+use circuit::row::form_at;
 use forms::buffer::term_at;
 use forms::terms::TERM_ROOM;
+use forms::terms::fill;
 use refusal::numbers::RowNumber;
+use runs::by_form::form_holds;
 use runs::held::rows_held;
 use sm3::constants::rotated_constants;
 
@@ -31,7 +33,7 @@ pub enum Verdict {
 }
 
 // The lowest row of a circuit that is not satisfied, if there is one: the rows outside, the terms of each row inside. Rows that hold by
-// what a run of wires is are passed by.
+// what a run of wires is, or as their form tells, are passed by.
 pub fn lowest_unsatisfied(circuit: Circuit, assignment: &[u8]) -> Verdict
     requires { ⌜ Allowed circuit × (length (now assignment) ≡ 8 * wireCount circuit) × (entry (now assignment) 0 ≡ 1) × BelowPrime (now assignment) ⌝ }
     ensures { λ r. ⌜ r ≡ lowest (entry (now (assignment .entry))) (rowAt circuit) 0 (rowCount circuit) ⌝ }
@@ -49,7 +51,12 @@ pub fn lowest_unsatisfied(circuit: Circuit, assignment: &[u8]) -> Verdict
             k += held;
             continue 'rows;
         }
-        let counts = unsorted_terms(circuit, RowNumber(k), &mut terms);
+        let form = form_at(circuit, RowNumber(k));
+        if form_holds(assignment, form) {
+            k += 1;
+            continue 'rows;
+        }
+        let counts = fill(form, &mut terms);
         let count = counts.a + counts.b + counts.c;
         let mut sums = Sums { a: 0, b: 0, c: 0 };
         let mut t = 0;
@@ -60,8 +67,7 @@ pub fn lowest_unsatisfied(circuit: Circuit, assignment: &[u8]) -> Verdict
                 }
                 break;
             }
-            let x = term_value(assignment, term_at(&terms, t));
-            sums = add_term(sums, counts, t, x);
+            sums = add_term(sums, counts, t, term_value(assignment, term_at(&terms, t)));
             t += 1;
         }
         k += 1;

@@ -1,13 +1,18 @@
--- Each part's run of the row's unsorted terms is sorted, which gives the row.
+-- The terms of the row's form are filled in, and each part's run of them is sorted, which gives the row.
 use native.Mathlib.Omega.{arith}
 use borrow.Author.Needs.{needs}
+use Rattle.circuit.proofs.row.SameForm.{filled-as}
 use Rattle.circuit.specs.Circuit.{rowAt}
 use Rattle.forms.proofs.sort.SortedRow.{sorted-filled}
 use Rattle.circuit.proofs.row.row_terms.Statement.{statement}
 use Rattle.circuit.proofs.row.row_terms.Tie as tie
 
-unsorted-terms-requires : tie.Need-unsorted-terms-requires
-unsorted-terms-requires c κs = search needs
+form-at-requires : tie.Need-form-at-requires
+form-at-requires c κs = search needs
+
+fill-requires : tie.Need-fill-requires
+fill-requires c κs =
+    let form = c .before .form-at .ensures in (c .before .before .before .pre .2, form .1, form .2)
 
 add-b : tie.Need-add-b
 add-b c = search needs
@@ -34,14 +39,16 @@ returns c =
     let second = third .before .before .before .before in
     let first = second .before .before .before .before in
     let called = first .before .before .before .before .before .before in
-    let filled = called .unsorted-terms .ensures in
-    sorted-filled _ _ (omega (arith, filled .few, called .before .before .before .pre .2)) filled (first .sort-run .ensures) (second .sort-run2 .ensures) (third .sort-run3 .ensures)
+    let form = called .before .before in
+    let filled = filled-as (form .form-at .ensures .0) (called .fill .ensures) in
+    sorted-filled _ _ (omega (arith, filled .few, form .before .before .pre .2)) filled (first .sort-run .ensures) (second .sort-run2 .ensures) (third .sort-run3 .ensures)
 
 pub row-terms-spec : {M : Type 1} → statement M
 row-terms-spec =
     tie.close
     (tie.spec
-    unsorted-terms-requires
+    form-at-requires
+    fill-requires
     add-b
     add-c
     sort-run-requires

@@ -13,7 +13,7 @@ use Rattle.block.specs.BlockWires.{expansionWires}
 use Rattle.block.specs.Steps.{blockRows}
 use Rattle.block.specs.Wires.{expansionAt, expansionWidth, wiresPerBlock}
 use Rattle.circuit.proofs.place.PlaceRange.{few-blocks}
-use Rattle.circuit.specs.Circuit.{beginsAt, rowAt}
+use Rattle.circuit.specs.Circuit.{beginsAt}
 use Rattle.circuit.specs.Circuits.{blockCount, messageOf}
 use Rattle.circuit.specs.Places.{stateRows}
 use Rattle.circuit.specs.Wires.{blockFirst, wireCount}

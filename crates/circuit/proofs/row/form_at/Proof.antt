@@ -1,5 +1,5 @@
--- The form at the row's place has terms in range and few of them, and they are filled in.
-use mathlib.Core.Path.{_≡_}
+-- The row's place is one of the circuit's, so that its form has wires in range and few terms.
+use mathlib.Core.Path.{_≡_, _∙_, ap}
 use Prim.Native.Nat.{ℕ, _<_}
 use borrow.Author.Needs.{needs}
 use Rattle.block.specs.declared.place.Place.{Place}
@@ -10,8 +10,8 @@ use Rattle.circuit.specs.Circuits.{blockCount}
 use Rattle.circuit.specs.Places.{placeAt, rowCount}
 use Rattle.circuit.specs.Ranges.{Allowed, InCircuit}
 use Rattle.circuit.specs.declared.circuits.Circuit.{Circuit}
-use Rattle.circuit.proofs.row.unsorted_terms.Statement.{statement}
-use Rattle.circuit.proofs.row.unsorted_terms.Tie as tie
+use Rattle.circuit.proofs.row.form_at.Statement.{statement}
+use Rattle.circuit.proofs.row.form_at.Tie as tie
 
 in-row : (C : Circuit) → Allowed C → (k : ℕ) {b : ℕ} {q : Place} → b ≡ blockCount C → q ≡ placeAt b k → k < rowCount C → InCircuit C q
 in-row C h k e at below = rw (at, e) (in-circuit C h k below)
@@ -24,36 +24,25 @@ place-of-requires c κs = search needs
 
 form-of-requires : tie.Need-form-of-requires
 form-of-requires c κs =
-    let start = c .before .before .before in
+    let start = c .before .before in
     (start .pre .0, in-row _ (start .pre .0) _ (c .before .block-count .ensures .0) (c .place-of .ensures) (start .pre .1))
-
-fill-requires : tie.Need-fill-requires
-fill-requires c κs =
-    let form = c .before .form-of .ensures in
-    let placed = c .before .before in
-    let start = placed .before .before .before in (
-      start .pre .2,
-      form .1,
-      rw (form .0) (place-few _ (start .pre .0) _ _ _ _ (in-row _ (start .pre .0) _ (placed .before .block-count .ensures .0) (placed .place-of .ensures) (start .pre .1))),
-    )
-
-same-length : tie.Need-same-length
-same-length c = search needs
 
 returns : tie.Need-returns
 unfolding formAt
 returns c =
-    let filled = c .before .before in
-    let placed = filled .before .before .before in
-    rw (← placed .before .block-count .ensures .0, ← placed .place-of .ensures, ← filled .before .before .form-of .ensures .0) (filled .fill .ensures)
+    let form = c .form-of .ensures in
+    let placed = c .before in
+    let start = placed .before .before in (
+      rw (← placed .before .block-count .ensures .0, ← placed .place-of .ensures) (form .0),
+      form .1,
+      rw (form .0) (place-few _ (start .pre .0) _ _ _ _ (in-row _ (start .pre .0) _ (placed .before .block-count .ensures .0) (placed .place-of .ensures) (start .pre .1))),
+    )
 
-pub unsorted-terms-spec : {M : Type 1} → statement M
-unsorted-terms-spec =
+pub form-at-spec : {M : Type 1} → statement M
+form-at-spec =
     tie.close
     (tie.spec
     block-count-requires
     place-of-requires
     form-of-requires
-    fill-requires
-    same-length
     returns)
