@@ -31,38 +31,56 @@ bit-holds-requires c κs =
     let form = told _ (c .before .form2 .given .1) (given .2) (given .3) in
     (given .0, given .1, form .0)
 
-enum-told : tie.Need-enum-told
-enum-told c = search needs
-
-enum-told-2 : tie.Need-enum-told-2
-enum-told-2 c = search needs
-
-enum-told-3 : tie.Need-enum-told-3
-enum-told-3 c = search needs
-
 enum-known-form-3 : tie.Need-enum-known-form-3
 enum-known-form-3 c = search needs
 
-choice-holds-requires : tie.Need-choice-holds-requires
-choice-holds-requires c κs =
+xor-two-holds-requires : tie.Need-xor-two-holds-requires
+xor-two-holds-requires c κs =
     let given = c .before .before .before .before .pre in
     let form = told _ (c .before .form3 .given .1) (given .2) (given .3) in
     (given .0, given .1, form .0)
 
-enum-told-4 : tie.Need-enum-told-4
-enum-told-4 c = search needs
-
 enum-known-form-4 : tie.Need-enum-known-form-4
 enum-known-form-4 c = search needs
 
-equal-holds-requires : tie.Need-equal-holds-requires
-equal-holds-requires c κs =
+xor-three-holds-requires : tie.Need-xor-three-holds-requires
+xor-three-holds-requires c κs =
     let given = c .before .before .before .before .pre in
     let form = told _ (c .before .form4 .given .1) (given .2) (given .3) in
     (given .0, given .1, form .0)
 
-enum-told-5 : tie.Need-enum-told-5
-enum-told-5 c = search needs
+enum-known-form-5 : tie.Need-enum-known-form-5
+enum-known-form-5 c = search needs
+
+majority-holds-requires : tie.Need-majority-holds-requires
+majority-holds-requires c κs =
+    let given = c .before .before .before .before .pre in
+    let form = told _ (c .before .form5 .given .1) (given .2) (given .3) in
+    (given .0, given .1, form .0)
+
+enum-known-form-6 : tie.Need-enum-known-form-6
+enum-known-form-6 c = search needs
+
+choice-holds-requires : tie.Need-choice-holds-requires
+choice-holds-requires c κs =
+    let given = c .before .before .before .before .pre in
+    let form = told _ (c .before .form6 .given .1) (given .2) (given .3) in
+    (given .0, given .1, form .0)
+
+enum-told : tie.Need-enum-told
+enum-told c = search needs
+
+enum-known-form-7 : tie.Need-enum-known-form-7
+enum-known-form-7 c = search needs
+
+equal-holds-requires : tie.Need-equal-holds-requires
+equal-holds-requires c κs =
+    let given = c .before .before .before .before .pre in
+    let form = told _ (c .before .form7 .given .1) (given .2) (given .3) in
+    (given .0, given .1, form .0)
+
+enum-told-2 : tie.Need-enum-told-2
+enum-told-2 c = search needs
 
 returns : tie.Need-returns
 returns c = rw (c .before .before .form .given .1) (c .fixed-holds .ensures)
@@ -71,22 +89,22 @@ returns-2 : tie.Need-returns-2
 returns-2 c = rw (c .before .before .form2 .given .1) (c .bit-holds .ensures)
 
 returns-3 : tie.Need-returns-3
-returns-3 c = λ e. absurd (false≢true e)
+returns-3 c = rw (c .before .before .form3 .given .1) (c .xor-two-holds .ensures)
 
 returns-4 : tie.Need-returns-4
-returns-4 c = λ e. absurd (false≢true e)
+returns-4 c = rw (c .before .before .form4 .given .1) (c .xor-three-holds .ensures)
 
 returns-5 : tie.Need-returns-5
-returns-5 c = λ e. absurd (false≢true e)
+returns-5 c = rw (c .before .before .form5 .given .1) (c .majority-holds .ensures)
 
 returns-6 : tie.Need-returns-6
-returns-6 c = rw (c .before .before .form3 .given .1) (c .choice-holds .ensures)
+returns-6 c = rw (c .before .before .form6 .given .1) (c .choice-holds .ensures)
 
 returns-7 : tie.Need-returns-7
 returns-7 c = λ e. absurd (false≢true e)
 
 returns-8 : tie.Need-returns-8
-returns-8 c = rw (c .before .before .form4 .given .1) (c .equal-holds .ensures)
+returns-8 c = rw (c .before .before .form7 .given .1) (c .equal-holds .ensures)
 
 returns-9 : tie.Need-returns-9
 returns-9 c = λ e. absurd (false≢true e)
@@ -99,15 +117,18 @@ form-holds-spec =
     fixed-holds-requires
     enum-known-form-2
     bit-holds-requires
-    enum-told
-    enum-told-2
-    enum-told-3
     enum-known-form-3
-    choice-holds-requires
-    enum-told-4
+    xor-two-holds-requires
     enum-known-form-4
+    xor-three-holds-requires
+    enum-known-form-5
+    majority-holds-requires
+    enum-known-form-6
+    choice-holds-requires
+    enum-told
+    enum-known-form-7
     equal-holds-requires
-    enum-told-5
+    enum-told-2
     returns
     returns-2
     returns-3
