@@ -26,8 +26,8 @@ use block::place::MESSAGE_ROWS;
 use block::wire::EXPANSION;
 use circuit::circuits::Circuit;
 use circuit::circuits::message_of;
+use circuit::frame::block_first;
 use circuit::wire::beginning;
-use circuit::wire::block_first;
 use refusal::numbers::WireNumber;
 
 // How many rows of block i past those of its bits hold, from the first on, because its wires are what its bits, the words x, and the

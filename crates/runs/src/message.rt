@@ -15,9 +15,9 @@ use assignment::entry::read;
 use circuit::circuits::Circuit;
 use circuit::circuits::content_form;
 use circuit::circuits::content_is_free;
+use circuit::frame::block_first;
 use circuit::message::MessageSpan;
 use circuit::step_form::message::padding_bit;
-use circuit::wire::block_first;
 use refusal::numbers::WireNumber;
 
 // How many bits of the block that begins with bit `at` of a message of so many bits are content.
