@@ -1,4 +1,4 @@
--- One law of exact acceptance, for every circuit. A circuit has witnesses: a record, a path's leaf with its siblings and directions. A valid
+-- One law of exact acceptance, for every circuit. What a circuit's wires are worked out from is its witness: a record, or one in a band. A valid
 -- witness has wires, which are bits, and a digest. Where the rows hold, the witness that is read off the wires is valid and the wires are its
 -- own; where the wires are a valid witness's, the rows hold. So an assignment is accepted against a digest exactly where some valid witness
 -- has that digest and, byte for byte, that assignment, and it is known by the wires that the witness is read off.

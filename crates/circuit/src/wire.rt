@@ -1,6 +1,6 @@
 // How many wires a circuit has, and what its blocks begin with.
 ghost use mathlib.Core.Path.{_≡_};
-ghost use Prim.Native.Nat.{_+_, _<_, _≤_};
+ghost use Prim.Native.Nat.{_≤_};
 ghost use Rattle.block.specs.Bounds.{BlockFrom};
 ghost use Rattle.circuit.specs.Circuit.{beginsAt};
 ghost use Rattle.circuit.specs.Ranges.{Allowed, OfMessage, mostWires};

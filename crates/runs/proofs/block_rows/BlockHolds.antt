@@ -1,5 +1,5 @@
 -- Where a block's wires are what its 512 bits and the words that it begins with give, up to some word or round, its rows up to there hold,
--- by the block's theorem. The rows of its bits hold where these are bits and the padding among them is the message's.
+-- by the block's theorem. The rows of its bits hold where the padding among them is the message's and the content's rows hold.
 use mathlib.Core.List.{List}
 use mathlib.Core.Path.{_≡_, _∙_, ap, refl, subst, sym}
 use Prim.Native.Nat.{ℕ, _+_, _-_, _*_, _/_, _%_, _<_, _≤_, _^_}

@@ -1,5 +1,5 @@
 -- The row's place is one of the circuit's, so that its form has wires in range and few terms.
-use mathlib.Core.Path.{_≡_, _∙_, ap}
+use mathlib.Core.Path.{_≡_}
 use Prim.Native.Nat.{ℕ, _<_}
 use borrow.Author.Needs.{needs}
 use Rattle.block.specs.declared.place.Place.{Place}
