@@ -1,2 +1,4 @@
 // The check of an assignment against a digest that all circuits share.
+#![tactic(auto)]
+
 pub mod circuit_check;

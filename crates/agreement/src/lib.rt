@@ -1,5 +1,7 @@
 // Words read off the entries of an assignment, and the wires of a block held against what it computes: what the producer writes is compared
 // here.
+#![tactic(auto)]
+
 pub mod expansion;
 pub mod past_expansion;
 pub mod rounds;

@@ -1,4 +1,6 @@
 // Assignments: their entries, and the wires of a block and of a message.
+#![tactic(auto)]
+
 pub mod block_wires;
 pub mod bounded;
 pub mod entry;

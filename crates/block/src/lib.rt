@@ -1,4 +1,6 @@
 // One block of the hash: where its words stand, and the forms of its rows.
+#![tactic(auto)]
+
 pub mod expansion_form;
 pub mod place;
 pub mod result_form;

@@ -1,4 +1,6 @@
 // The constraint rows around and over the blocks: circuits, wires, messages, places, the row of a number.
+#![tactic(auto)]
+
 pub mod axles;
 pub mod circuits;
 pub mod frame;

@@ -1,4 +1,6 @@
 // Arithmetic modulo p = 2^61 - 1.
+#![tactic(auto)]
+
 ghost use Rattle.std.specs.Prelude.{◌≡◌, ◌+◌, ◌*◌, ◌^◌, ◌%◌, ◌<◌};
 ghost use Rattle.field.specs.Field.{p};
 

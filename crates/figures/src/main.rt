@@ -14,6 +14,8 @@
 // each a wire and a coefficient. Row 256 fixes wire 513 to 1 at 0 bits; at 1 byte, and at 1 bit too, it is a bit row, with p - 1
 // on wire 0 in B; at 1 bit row 257 fixes wire 514 to 1; row 32,576 at 0 bits has wires 1 (1) and 22,785 (p - 1) in A; row 32,832
 // at 0 bits is refusal 3. Document 02's request 7 gives p - 1 as -1.
+#![tactic(auto)]
+
 ghost use Rattle.std.specs.Prelude.{◌+◌, ◌≤◌};
 ghost use Rattle.circuit.specs.GivenRow.{row_bytes};
 ghost use Rattle.limits.specs.Blocks.{most_bits};

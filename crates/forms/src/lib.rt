@@ -1,4 +1,6 @@
 // Words on wires, the row forms, and the terms of a row.
+#![tactic(auto)]
+
 pub mod buffer;
 pub mod coefficient;
 pub mod form;

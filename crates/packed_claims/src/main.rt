@@ -1,5 +1,7 @@
 // What `packed` answers to further claims, one line each: the claim of the record `abc` as it is, and with one thing wrong for
 // each refusal.
+#![tactic(auto)]
+
 ghost use Rattle.std.specs.Prelude.{◌≡◌, ◌<◌, ◌≤◌, length};
 
 use claim::program::print_answer;

@@ -1,4 +1,6 @@
 // The passage product: passage lines read, written, sealed and checked, on top of the row library.
+#![tactic(auto)]
+
 pub mod check;
 pub mod format;
 pub mod line;

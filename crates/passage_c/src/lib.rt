@@ -1,5 +1,7 @@
 // The passage product for a C host: each function takes numbers and byte slices and answers one 64-bit number, whose low byte is
 // the refusal's number and which has the values above it (docs/HOST.md).
+#![tactic(auto)]
+
 ghost use Rattle.std.specs.Prelude.{◌≡◌, length};
 ghost use Rattle.passage.specs.Front.{Fit};
 ghost use Rattle.passage.specs.Read.{read_answer};

@@ -1,4 +1,6 @@
 // The refusals that several operations share, with the numbers of rows, wires and bytes that they name.
+#![tactic(auto)]
+
 pub mod numbers;
 pub mod outcome;
 pub mod packing;

@@ -1,4 +1,6 @@
 // What `rows` and `axle_rows` print for lines that the program holds, one after the other: right ones, and some for each refusal.
+#![tactic(auto)]
+
 use listing::program::print_listing;
 use listing::progress::Listing;
 use listing::request::Front;

@@ -1,4 +1,6 @@
 // The record that programs try the operations on.
+#![tactic(auto)]
+
 ghost use Rattle.std.specs.Prelude.{◌≡◌, ◌≤◌, length};
 ghost use Rattle.limits.specs.Blocks.{most_bits};
 

@@ -1,4 +1,6 @@
 // SM3 by GB/T 32905-2016: the digest of a record of 0 to 8,127 bits.
+#![tactic(auto)]
+
 pub mod compression;
 pub mod constants;
 pub mod digest;

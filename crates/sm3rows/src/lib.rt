@@ -1,5 +1,7 @@
 // The operations for a C host: each takes numbers and byte slices and answers one 64-bit number, whose low byte is
 // the refusal's number and which has the values above it (docs/HOST.md). A caller's limit in blocks comes first.
+#![tactic(auto)]
+
 ghost use Rattle.std.specs.Prelude.{◌≡◌, length};
 ghost use Rattle.axles.specs.Check.{axles_check_answer};
 ghost use Rattle.axles.specs.Produce.{axles_produce_answer, axles_produce_left};

@@ -1,4 +1,6 @@
 // Prints what the line on standard input asks for.
+#![tactic(auto)]
+
 use listing::program::run;
 use listing::progress::Listing;
 use listing::request::Front;

@@ -23,6 +23,8 @@
 //     short       the assignment's last byte is left out
 //     plus_p      p is added to every entry
 // A local array has the 2,887,688 bytes of the longest assignment: the program needs 3 megabytes of stack.
+#![tactic(auto)]
+
 ghost use Rattle.std.specs.Prelude.{◌≡◌, ◌*◌, ◌≤◌, length};
 ghost use Rattle.circuit.specs.Wires.{wire_count};
 ghost use Rattle.circuit.specs.declared.circuits.Circuit.TheVariants.{Record};
