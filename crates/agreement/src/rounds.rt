@@ -44,7 +44,7 @@ fn round_agrees(assignment: &[u8], w: WireNumber, r: RoundValues) -> bool
 }
 
 // What the wires of the rounds are.
-#[derive(Drop)]
+#[derive(Clone, Copy)]
 pub struct RoundsRead {
     // How many rounds have their wires, up to the first that has not.
     pub count: u64,

@@ -9,7 +9,7 @@ use refusal::numbers::WireNumber;
 use sm3::state::State;
 
 // What 32 entries are. In an honest assignment they are bits.
-#[derive(Drop)]
+#[derive(Clone, Copy)]
 pub struct Standing {
     // The number that they write if they are bits.
     pub number: u64,
@@ -18,7 +18,7 @@ pub struct Standing {
 }
 
 // What 256 wires are.
-#[derive(Drop)]
+#[derive(Clone, Copy)]
 pub enum StateRead {
     // The bits of these words.
     Words(State),

@@ -10,7 +10,7 @@ use refusal::numbers::WireNumber;
 use refusal::outcome::{Outcome, Refusal};
 
 // What a limit makes of entries.
-#[derive(Drop)]
+#[derive(Clone, Copy)]
 pub enum Lowest {
     // Every entry is below it.
     AllBelow,

@@ -6,7 +6,7 @@ ghost use Rattle.sm3.specs.Sm3.{truncated};
 use sm3::words::{sum_of_3, sum_of_4};
 
 // A sum of words: the word that the hash keeps, and what passes 2^32.
-#[derive(Drop)]
+#[derive(Clone, Copy)]
 pub struct Sum {
     pub word: u32,
     pub carry: u64,

@@ -9,7 +9,7 @@ use sm3::state::State;
 use sm3::words::{choice_of, majority_of, p0, p1, rotate_left};
 
 // What the expansion computes for one word, in the order of its wires: q, P1(q) and Wj.
-#[derive(Drop)]
+#[derive(Clone, Copy)]
 pub struct ExpansionValues {
     pub q: u32,
     pub p1: u32,
@@ -17,7 +17,7 @@ pub struct ExpansionValues {
 }
 
 // What a round computes, in the order of its wires: u, SS2, FF, GG, TT1, TT2 and P0(TT2), the sums with their carries.
-#[derive(Drop)]
+#[derive(Clone, Copy)]
 pub struct RoundValues {
     pub u: Sum,
     pub ss2: u32,

@@ -43,7 +43,7 @@ pub fn rows_before_round(j: u64) -> u64
 }
 
 // A row's place: `index` is j or the number of a word, `line` counts the rows of that step's word from 0.
-#[derive(Drop)]
+#[derive(Clone, Copy)]
 pub struct Place {
     pub block: u64,
     pub step: Step,

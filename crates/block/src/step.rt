@@ -4,7 +4,7 @@ ghost use Rattle.block.specs.Steps.{lines, lines_with};
 
 // The steps of the layout, in its order: those of a block, and around the blocks the start words, the digest, and what a circuit
 // appends, a row each.
-#[derive(Drop)]
+#[derive(Clone, Copy)]
 pub enum Step {
     Start,
     Message,

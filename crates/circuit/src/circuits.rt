@@ -16,7 +16,7 @@ use forms::form::Form;
 use refusal::numbers::WireNumber;
 
 // Which circuit.
-#[derive(Drop)]
+#[derive(Clone, Copy)]
 pub enum Circuit {
     // That of a record of so many bits.
     Record { bits: u64 },

@@ -15,7 +15,7 @@ use refusal::outcome::Refusal;
 pub const ROW_BYTES: usize = 1956;
 
 // The answer to who asks for a row.
-#[derive(Drop)]
+#[derive(Clone, Copy)]
 pub enum RowAnswer {
     // The terms are written; how many belong to A, to B and to C.
     Given { a: u64, b: u64, c: u64 },

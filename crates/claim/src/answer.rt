@@ -16,7 +16,7 @@ use text::literal::put_through;
 use text::refused::put_refusal;
 
 // What a claim is answered.
-#[derive(Drop)]
+#[derive(Clone, Copy)]
 pub enum Answer {
     // Refusal 1: the line is no length and digest.
     BadLine,

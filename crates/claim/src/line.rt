@@ -6,7 +6,7 @@ use text::field::{Field, read_field};
 use text::hex::all_hex;
 
 // What the line says.
-#[derive(Drop)]
+#[derive(Clone, Copy)]
 pub enum Parsed {
     // A length in bits below 1,000,000,000, and the place where the digits of the digest begin.
     Claim { bits: u64, digest: usize },

@@ -12,7 +12,7 @@ use lib.ListN.{get_or-eq_default, length}
 use lib.Seq.{ext_get_or}
 use Rattle.encoding.proofs.Bits.{bit_of-byte, bit_of-number, number_cong, number_lt, number_of-byte}
 use Rattle.encoding.proofs.Tab.{get_or-tab, length-tab, tab-add, tab_congruent}
-use Rattle.encoding.specs.Bits.{bit_of_bytes, bytes_of_bits, number}
+use Rattle.encoding.specs.Bits.{bit_of_bytes, bytes_of_bits}
 use Rattle.encoding.specs.Bytes.{Bytes}
 use Rattle.encoding.specs.Sequence.{tab}
 

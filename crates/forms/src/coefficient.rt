@@ -10,7 +10,7 @@ use field::P;
 const HALF: u64 = 1152921504606846975;
 
 // A number by its sign and its magnitude.
-#[derive(Drop)]
+#[derive(Clone, Copy)]
 pub enum Signed {
     Plus(u64),
     Minus(u64),

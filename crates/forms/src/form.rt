@@ -3,14 +3,14 @@ use crate::position::WordPosition;
 use refusal::numbers::WireNumber;
 
 // A wire and the residue of its coefficient modulo p.
-#[derive(Drop)]
+#[derive(Clone, Copy)]
 pub struct Term {
     pub wire: WireNumber,
     pub residue: u64,
 }
 
 // Two words, or four where `four` is true, that are added up.
-#[derive(Drop)]
+#[derive(Clone, Copy)]
 pub struct Addends {
     pub x: WordPosition,
     pub y: WordPosition,
@@ -20,7 +20,7 @@ pub struct Addends {
 }
 
 // A digit on four wires, or where `two` is true a number of two digits, each from its highest bit on.
-#[derive(Drop)]
+#[derive(Clone, Copy)]
 pub struct Digits {
     pub units: WireNumber,
     pub two: bool,
@@ -28,7 +28,7 @@ pub struct Digits {
 }
 
 // One row's equation, in the letters of the layout.
-#[derive(Drop)]
+#[derive(Clone, Copy)]
 pub enum Form {
     // w × 1 = bit
     Fixed {

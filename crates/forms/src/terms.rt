@@ -28,7 +28,7 @@ const HIGH_CARRY: u64 = 8589934592;
 const LOW_CARRY: u64 = 4294967296;
 
 // How many terms A, B and C have.
-#[derive(Drop)]
+#[derive(Clone, Copy)]
 pub struct Counts {
     pub a: usize,
     pub b: usize,

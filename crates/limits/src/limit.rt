@@ -13,7 +13,7 @@ pub const OUR_LIMIT: u64 = 16;
 pub const PARTNER_LIMIT: u64 = 2;
 
 // What a limit says of a length.
-#[derive(Drop)]
+#[derive(Clone, Copy)]
 pub enum Allowance {
     // The length needs no more blocks than the limit.
     Within,
@@ -24,6 +24,7 @@ pub enum Allowance {
 }
 
 // What a limit of so many blocks says of a record of so many bits. Every operation on a record asks this function.
+#[tactic(auto, unfolding(crate::specs::Limit::allowance))]
 pub fn decide(limit: u64, bits: u64) -> Allowance
     ensures { result ≡ allowance limit bits }
 {

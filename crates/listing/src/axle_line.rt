@@ -7,7 +7,7 @@ use crate::line::{Parsed, parse};
 use text::field::{Field, read_field};
 
 // What a line says.
-#[derive(Drop)]
+#[derive(Clone, Copy)]
 pub enum ParsedAxles {
     // Four numbers below 1,000,000,000.
     FourNumbers {

@@ -6,7 +6,7 @@ ghost use Rattle.listing.specs.Line.{parse_of};
 use text::field::{Field, read_field};
 
 // What a line says.
-#[derive(Drop)]
+#[derive(Clone, Copy)]
 pub enum Parsed {
     // Three numbers below 1,000,000,000.
     Numbers { leading: u64, first: u64, many: u64 },

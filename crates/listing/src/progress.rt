@@ -17,7 +17,7 @@ use text::literal::put_through;
 use text::refused::put_refusal;
 
 // The programs' two listings.
-#[derive(Drop)]
+#[derive(Clone, Copy)]
 pub enum Listing {
     // The terms of each row.
     Rows,
@@ -26,7 +26,7 @@ pub enum Listing {
 }
 
 // What is still to be printed.
-#[derive(Drop)]
+#[derive(Clone, Copy)]
 pub enum Progress {
     // All that a request asks for.
     Begun(Request),
@@ -41,7 +41,7 @@ pub enum Progress {
 }
 
 // How many bytes at the front of a buffer are to be printed next, and what is to be printed after them.
-#[derive(Drop)]
+#[derive(Clone, Copy)]
 pub struct Chunk {
     pub bytes: usize,
     pub next: Progress,

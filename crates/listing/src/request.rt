@@ -16,7 +16,7 @@ use refusal::numbers::RowNumber;
 use refusal::outcome::{Outcome, Refusal, number_of};
 
 // What stands at the front of a line, before the first row and how many.
-#[derive(Drop)]
+#[derive(Clone, Copy)]
 pub enum Front {
     // The length of a record in bits.
     Length,
@@ -25,7 +25,7 @@ pub enum Front {
 }
 
 // What a line asks for.
-#[derive(Drop)]
+#[derive(Clone, Copy)]
 pub enum Request {
     // So many rows of a circuit from `first` on.
     Rows {

@@ -7,7 +7,7 @@ use text::decimal::{is_digit, is_digit_or};
 use text::hex::is_hex_digit;
 
 // The kinds of places.
-#[derive(Drop)]
+#[derive(Clone, Copy)]
 pub enum Kind {
     // A digit of the lane, the time or the axles.
     Digit,

@@ -8,7 +8,7 @@ ghost use Rattle.passage.specs.Write.{numeral};
 use encoding::read::wide;
 
 // The fields that are numbers.
-#[derive(Drop)]
+#[derive(Clone, Copy)]
 pub struct Numbers {
     pub lane: u64,
     // Seconds since 1970 UTC.

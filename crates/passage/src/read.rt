@@ -10,7 +10,7 @@ use crate::places::{
 use refusal::outcome::{Outcome, Refusal};
 
 // The answer of `read`.
-#[derive(Drop)]
+#[derive(Clone, Copy)]
 pub enum Reading {
     Given(Numbers),
     Refused(Refusal),

@@ -1,13 +1,13 @@
 // Numbers of rows, of wires and of a line's bytes, which all count from 0 and are never taken for each other.
 
 // A row's number.
-#[derive(Drop)]
+#[derive(Clone, Copy)]
 pub struct RowNumber(pub u64);
 
 // A wire's number.
-#[derive(Drop)]
+#[derive(Clone, Copy)]
 pub struct WireNumber(pub u64);
 
 // The number of a byte in a line.
-#[derive(Drop)]
+#[derive(Clone, Copy)]
 pub struct ByteNumber(pub u64);

@@ -5,7 +5,7 @@ ghost use Rattle.refusal.specs.Refusals.{refusal_number};
 use crate::numbers::{ByteNumber, RowNumber, WireNumber};
 
 // The refusals that several operations share, in the order of their numbers.
-#[derive(Drop)]
+#[derive(Clone, Copy)]
 pub enum Refusal {
     // 2: the record length is above 8,127 bits.
     LengthOutOfRange,
@@ -52,7 +52,7 @@ pub enum Refusal {
 }
 
 // The answer of an operation that hands nothing back: it is done, or it is refused and no lent byte is altered.
-#[derive(Drop)]
+#[derive(Clone, Copy)]
 pub enum Outcome {
     Done,
     Refused(Refusal),

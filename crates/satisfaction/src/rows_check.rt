@@ -20,7 +20,7 @@ use runs::held::rows_held;
 use sm3::constants::rotated_constants;
 
 // What rows make of an assignment.
-#[derive(Drop)]
+#[derive(Clone, Copy)]
 pub enum Verdict {
     // Every row is satisfied.
     AllSatisfied,

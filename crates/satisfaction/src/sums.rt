@@ -11,7 +11,7 @@ use forms::form::Term;
 use forms::terms::Counts;
 
 // What the terms of A, of B and of C come to, as far as they are added up.
-#[derive(Drop)]
+#[derive(Clone, Copy)]
 pub struct Sums {
     pub a: u64,
     pub b: u64,

@@ -6,7 +6,7 @@ use crate::decimal::is_digit;
 use encoding::read::wide;
 
 // A number at the front of some bytes, and how many of them it takes with the byte after it.
-#[derive(Drop)]
+#[derive(Clone, Copy)]
 pub enum Field {
     Number { value: u64, bytes: usize },
     Wrong,

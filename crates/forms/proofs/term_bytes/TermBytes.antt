@@ -1,6 +1,6 @@
 -- The bytes of terms and how they are written: a number byte by byte, a term's coefficient behind its wire, and term
 -- behind term.
-use Rattle.std.proofs.Common.{◌≡◌, ℕ, suc, ◌+◌, ◌*◌, ◌<◌, ◌≤◌, List, [], ◌∷◌, ◌++◌, length, get_or, take, sym, refl, ap, ◌∙◌, ap₂, append_assoc, append-nil, zero-le, add-one, arith, length-append, length-take-le, take_all, take-suc}
+use Rattle.std.proofs.Common.{◌≡◌, ℕ, ◌+◌, ◌*◌, ◌<◌, ◌≤◌, List, [], ◌∷◌, ◌++◌, length, get_or, take, sym, refl, ap, ◌∙◌, ap₂, append_assoc, append-nil, zero-le, add-one, arith, length-append, length-take-le, take_all, take-suc}
 use Rattle.encoding.proofs.Bytes.{length-least_first, length-twos_complement}
 use Rattle.encoding.proofs.Written.{length-written, written_as, written_none, written_then}
 use Rattle.encoding.specs.Bytes.{least_first, twos_complement}

@@ -3,7 +3,6 @@
 use Rattle.std.proofs.Common.{◌≡◌, ℕ, ◌+◌, ◌-◌, ◌*◌, ◌/◌, ◌^◌, ◌<◌, ◌≤◌, Bool, true, false, cond, not, List, [], ◌∷◌, ◌++◌, length, sym, refl, ap, ◌∙◌, append-nil, mul-le-mul, arith, lit≤, length-append, pow_pos, pow_mono, pow-add}
 use lib.Pow.{shl-shr}
 use Rattle.encoding.proofs.Tab.{length-tab}
-use Rattle.encoding.specs.Sequence.{tab}
 use Rattle.encoding.specs.Written.{Written}
 use Rattle.field.specs.Field.{p}
 use Rattle.forms.proofs.shape.Nonzero.{keeps}

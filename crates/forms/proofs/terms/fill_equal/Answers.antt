@@ -1,0 +1,17 @@
+-- The three terms of an equality, in the letters' order.
+use Rattle.std.proofs.Common.{refl, lit≤}
+use Rattle.forms.proofs.terms.WrittenTerms.{three_pieces}
+use Rattle.forms.specs.Rows.{letters, nonzero, terms}
+use Rattle.forms.specs.Terms.{flat, unsorted}
+use Rattle.forms.proofs.terms.fill_equal.Goals as goal
+
+pub returns : goal.returns
+unfolding flat letters nonzero terms unsorted
+returns c =
+    record {
+      a = refl;
+      b = refl;
+      c = refl;
+      written = three_pieces c.push.ensures c.push-2.ensures c.push-3.ensures;
+      few = lit≤ tt;
+    }

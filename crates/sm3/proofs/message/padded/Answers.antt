@@ -1,0 +1,34 @@
+-- Up to the bit length the block is the message's; in the last block the length is set behind it.
+use Rattle.std.proofs.Common.{◌∙◌, arith}
+use Rattle.limits.specs.Blocks.{blocks}
+use Rattle.sm3.proofs.message.PaddedBlock.{ended_laid, ended_bytes, last, length-set, not_last, with_length}
+use Rattle.sm3.proofs.message.Padding.{block-bits}
+use Rattle.sm3.proofs.message.padded.Goals as goal
+
+pub overflow_mul-i : goal.overflow_mul-i
+unfolding blocks
+overflow_mul-i c = omega arith
+
+pub overflow_add-i : goal.overflow_add-i
+unfolding blocks
+overflow_add-i c = omega arith
+
+pub returns-then-bits-i : goal.returns-then-bits-i
+returns-then-bits-i c =
+    let b = c.ended-b in
+    let a = c.args in
+    let bytes = a.bytes.now in
+    let laid = ended_laid a.bits bytes a.i (omega arith) in
+    let f = ended_bytes a.bits bytes a.i in
+    block-bits a.bits bytes a.i (with_length a.bits bytes a.i f laid)
+    (last a.bits bytes a.i f laid (omega arith) (omega arith) (omega arith)) c.with_length.result
+    (c.with_length.ensures ∙ length-set a.bits bytes a.i f laid b.result b.ensures)
+
+pub returns : goal.returns
+returns c =
+    let b = c.ended-b in
+    let a = c.args in
+    let bytes = a.bytes.now in
+    let laid = ended_laid a.bits bytes a.i (omega arith) in
+    let f = ended_bytes a.bits bytes a.i in
+    block-bits a.bits bytes a.i f (not_last a.bits bytes a.i f laid (omega arith)) b.result b.ensures
