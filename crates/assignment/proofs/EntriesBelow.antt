@@ -1,6 +1,6 @@
 -- Entries below a limit. They are asked from wire 0 on, so where an entry is below the limit those after it decide; and where all of
 -- them put together by `or` are below it, each of them is.
-use Rattle.std.proofs.Common.{◌≡◌, ℕ, ◌+◌, ◌-◌, ◌*◌, ◌<◌, ◌≤◌, ltb, ◌↔◌, List, length, sym, ◌∙◌, subst, arith, lit<, below_none, below_more, ltb-true, le-ltb, lt-ltb}
+use Rattle.std.proofs.Common.{◌≡◌, ℕ, ◌+◌, ◌-◌, ◌*◌, ◌<◌, ◌≤◌, ◌↔◌, List, length, sym, ◌∙◌, subst, arith, lit<, below_none, below_more, ltb-true, le-ltb, lt-ltb}
 use mathlib.Core.Logic.{by_cases}
 use native.Mathlib.Decide.{dec_lt}
 use lib.Bits.{and_le_l, and_le_r, bit_or, or_add_and}

@@ -28,7 +28,6 @@ use Rattle.encoding.specs.Bits.{bit_of_bytes}
 use Rattle.encoding.specs.Sequence.{beside, grid}
 use Rattle.forms.specs.Rows.{row_of}
 use Rattle.forms.specs.declared.form.Form.TheVariants.{Bit, Fixed}
-use Rattle.forms.specs.declared.form.Form.{Form}
 use Rattle.limits.specs.Blocks.{blocks}
 use Rattle.sm3.proofs.WholeBytes.{blocks_of_bytes_lem, padded-message}
 use Rattle.sm3.proofs.message.MessageBits.{message_padding}

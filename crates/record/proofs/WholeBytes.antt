@@ -1,7 +1,6 @@
 -- Whole bytes. The wires are those of the message, which is the padded bytes, and of the count of its blocks; the tests of each answer
 -- ask the range and the counts, and 13 and 14 do not come up.
 use mathlib.Core.Bool.{cond}
-use mathlib.Core.List.{List}
 use mathlib.Core.Path.{◌∙◌, ap, ap₂}
 use Prim.Native.Nat.{◌*◌}
 use lib.Dec.{ltb}
@@ -33,7 +32,7 @@ record_whole_bytes =
           ap₂ (λ m c. frame_wires (chaining_value m c) (message_wires m)) (padded-message r) (whole_bytes.block_count_lem (length r));
       row =
           λ L k room.
-          ours_stand RowAnswer row.Refused (λ answer. answer) (8 * L) _ ∙ rw (whole_bytes.range L, (circuit.whole_bytes).row_count L);
+          ours_stand RowAnswer row.Refused (λ answer. answer) (8 * L) _ ∙ rw (whole_bytes.range L, (circuit.whole_bytes).row_count_lem L);
       produce =
           λ r room.
           whole_handed r _
@@ -42,5 +41,5 @@ record_whole_bytes =
       check =
           λ L d a.
           ours_length (8 * L) _
-          ∙ rw (whole_bytes.range L, (circuit.whole_bytes).wire_count_lem L, (circuit.whole_bytes).row_count L);
+          ∙ rw (whole_bytes.range L, (circuit.whole_bytes).wire_count_lem L, (circuit.whole_bytes).row_count_lem L);
     }

@@ -12,12 +12,11 @@ use Rattle.circuit.specs.Former.{CoefficientsUnaltered}
 use Rattle.circuit.specs.Places.{row_count}
 use Rattle.circuit.specs.Ranges.{Allowed}
 use Rattle.circuit.specs.declared.circuits.Circuit.{Circuit}
-use Rattle.field.specs.Field.{p, residue}
+use Rattle.field.specs.Field.{p}
 use Rattle.forms.proofs.exact.Signed.{signed-residue}
 use Rattle.forms.proofs.shape.All.{all_map}
 use Rattle.forms.proofs.terms.FlatAll.{all_front}
 use Rattle.forms.proofs.terms.WrittenTerms.{filled-front, filled-length}
-use Rattle.forms.specs.Coefficients.{coefficient}
 use Rattle.forms.specs.Former.{IsFormer}
 use Rattle.forms.specs.Rows.{terms}
 use Rattle.forms.specs.Terms.{Filled, term_at, term_room}

@@ -24,7 +24,7 @@ use Rattle.circuit.specs.declared.circuits.Circuit.{Circuit}
 use Rattle.circuit.specs.declared.message.MessageSpan.{MessageSpan}
 use Rattle.encoding.proofs.Sequence.{beside_first, beside_then}
 use Rattle.encoding.specs.Sequence.{beside, grid}
-use Rattle.forms.proofs.exact.Runs.{Agree, Holds, Judged}
+use Rattle.forms.proofs.exact.Runs.{Holds, Judged}
 use Rattle.forms.proofs.exact.Words.{fixed_row}
 use Rattle.forms.proofs.shape.All.{of_cond}
 use Rattle.forms.specs.Rows.{Satisfied, row_of}

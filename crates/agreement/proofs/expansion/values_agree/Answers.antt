@@ -1,0 +1,19 @@
+-- The wires of the three words agree one after the other.
+use mathlib.Core.Bool.{false≢true}
+use Rattle.std.proofs.Common.{◌+◌, refl, arith}
+use Rattle.agreement.proofs.Agreeing.{agrees_then}
+use Rattle.agreement.proofs.expansion.values_agree.Goals as goal
+
+pub returns-then-not-word_agrees : goal.returns-then-not-word_agrees
+returns-then-not-word_agrees c = λ e. absurd (false≢true e)
+
+pub returns-then-not-word_agrees-2 : goal.returns-then-not-word_agrees-2
+returns-then-not-word_agrees-2 c = λ e. absurd (false≢true e)
+
+pub returns : goal.returns
+returns c =
+    let w = c.args.w.0 in
+    λ e.
+    agrees_then (w + 32) refl (c.word_agrees.ensures c.if-not-word_agrees.false)
+    (agrees_then (w + 64) (omega arith) (c.word_agrees-2.ensures c.if-not-word_agrees-2.false)
+    (c.word_agrees-3.ensures e))

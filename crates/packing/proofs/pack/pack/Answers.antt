@@ -1,0 +1,97 @@
+-- The tests are the refusals in their order; past them all wires are bits, and they are packed from the buffer's front on.
+use mathlib.Core.List.{List}
+use mathlib.Core.Path.{◌≡◌, ◌∙◌, ap, refl, sym}
+use Prim.Native.Nat.{ℕ, ◌*◌, ◌<◌, ◌≤◌}
+use native.Mathlib.Omega.{arith}
+use borrow.Author.Tests.{eq-eqb, le-ltb, lt-ltb, ne_eqb}
+use lib.ListN.{length}
+use Rattle.assignment.specs.Assignment.{entry}
+use Rattle.assignment.specs.BelowPrime.{below_prime_answer}
+use Rattle.circuit.specs.Wires.{wire_count}
+use Rattle.circuit.specs.declared.circuits.Circuit.TheVariants.{Record}
+use Rattle.encoding.proofs.PackedBits.{length-packed}
+use Rattle.encoding.proofs.Written.{written_as, written-front}
+use Rattle.encoding.specs.Packed.{packed_bytes, packed_length}
+use Rattle.limits.proofs.limit.Decided.{allowed_range}
+use Rattle.limits.proofs.limit.Tests.{length_before, length_done}
+use Rattle.limits.specs.Limit.{length_answer}
+use Rattle.packing.proofs.WordBytes.{one_over}
+use Rattle.packing.proofs.pack.EntriesAsked.{asked_done}
+use Rattle.packing.specs.Pack.{bits_answer, pack_answer}
+use Rattle.refusal.specs.declared.outcome.Outcome.TheVariants.{Done}
+use Rattle.packing.proofs.pack.pack.Goals as goal
+
+-- past the tests of the lengths, what the m entries are answered is the answer
+entries_decide : (l n m room : ℕ) (a : List ℕ) → m ≡ wire_count (Record n) → length_answer l n Done ≡ Done → packed_length m ≤ room → length a ≡ 8 * m
+    → below_prime_answer m a (bits_answer m a) ≡ pack_answer l n a room
+unfolding pack_answer
+entries_decide l n m room a counted allowed enough long =
+    rw (← counted) (sym ((length_before l n).passed _ allowed ∙ simp (le-ltb room (packed_length m) enough, eq-eqb (length a) (8 * m) long)))
+
+pub returns-in-Refused : goal.returns-in-Refused
+unfolding pack_answer
+returns-in-Refused c = record {
+  value = sym ((length_before _ _).stands _ _ (sym c.ask_length-allowed.ensures ∙ c.in-Refused.is));
+  out_after = refl;
+}
+
+pub wire_count-wires-requires : goal.wire_count-wires-requires
+wire_count-wires-requires c = allowed_range ((length_done _ _).0 (sym c.ask_length-allowed.ensures ∙ c.in_default.is)).0
+
+pub returns-then-out-room : goal.returns-then-out-room
+unfolding pack_answer
+returns-then-out-room c =
+    let a = c.args in
+    let allowed : length_answer a.limit a.bits Done ≡ Done = sym c.ask_length-allowed.ensures ∙ c.in_default.is in
+    let short : length a.out.now < packed_length (wire_count (Record a.bits)) = omega arith in
+    record {
+      value = sym ((length_before _ _).passed _ allowed ∙ simp (lt-ltb _ _ short));
+      out_after = refl;
+    }
+
+pub returns-then-assignment-bytes : goal.returns-then-assignment-bytes
+unfolding pack_answer
+returns-then-assignment-bytes c =
+    let counted = c.wire_count-wires.ensures.0 in
+    let a = c.args in
+    let allowed : length_answer a.limit a.bits Done ≡ Done = sym c.ask_length-allowed.ensures ∙ c.in_default.is in
+    let room : packed_length (wire_count (Record a.bits)) ≤ length a.out.now = omega arith in
+    let wrong : length a.assignment.now ≡ 8 * wire_count (Record a.bits) → ⊥ =
+    λ e. c.if-assignment-bytes.true (e ∙ ap (λ m. 8 * m) (sym counted)) in
+    record {
+      value = sym ((length_before _ _).passed _ allowed ∙ simp (le-ltb _ _ room, ne_eqb _ _ wrong));
+      out_after = refl;
+    }
+
+pub returns-in-Refused-asked : goal.returns-in-Refused-asked
+returns-in-Refused-asked c =
+    let a = c.args in
+    let allowed : length_answer a.limit a.bits Done ≡ Done = sym c.ask_length-allowed.ensures ∙ c.in_default.is in
+    record {
+      value = sym c.in-Refused-asked.is
+          ∙ c.entries_asked-asked.ensures
+          ∙ entries_decide _ _ _ _ a.assignment.now c.wire_count-wires.ensures.0 allowed (omega arith) c.if-assignment-bytes.false;
+      out_after = refl;
+    }
+
+pub put_packed-requires : goal.put_packed-requires
+put_packed-requires c =
+    let a = c.args in (
+      omega (arith, one_over a.bits),
+      omega arith,
+      omega arith,
+      (asked_done _ a.assignment.now).0 (sym c.entries_asked-asked.ensures ∙ c.in_default-asked.is),
+    )
+
+pub returns : goal.returns
+returns c =
+    let a = c.args in
+    let allowed : length_answer a.limit a.bits Done ≡ Done = sym c.ask_length-allowed.ensures ∙ c.in_default.is in
+    let wires : ℕ = wire_count (Record a.bits) in
+    record {
+      value = sym c.in_default-asked.is
+          ∙ c.entries_asked-asked.ensures
+          ∙ entries_decide _ _ _ _ a.assignment.now c.wire_count-wires.ensures.0 allowed (omega arith) c.if-assignment-bytes.false;
+      out_after = written-front (packed_length wires) (length-packed wires (entry a.assignment.now)) (omega arith)
+          (written_as (ap (λ m. packed_bytes m (entry a.assignment.now)) c.wire_count-wires.ensures.0) c.put_packed.ensures);
+    }

@@ -1,0 +1,175 @@
+-- Before each turn all rows below row k hold, so the lowest failing row is that of the rows from k on. Where rows from k on hold for sure,
+-- or row k by its form, a turn goes past them; else it sums up the terms of row k, and the sums of all of them tell whether it holds.
+use mathlib.Core.Path.{◌∙◌, ap, refl, subst, sym}
+use native.Mathlib.Nat.{mod-lt, sub-zero}
+use native.Mathlib.Omega.{arith}
+use borrow.Author.Tests.{eq-eqb, ne_eqb}
+use lib.Dec.{lit<}
+use Rattle.assignment.specs.Assignment.{entry}
+use Rattle.circuit.proofs.place.PlaceRange.{most_rows_lem}
+use Rattle.circuit.proofs.row.SameForm.{filled_as}
+use Rattle.circuit.proofs.shape.RowApart.{row_apart}
+use Rattle.circuit.specs.Circuit.{row_at}
+use Rattle.circuit.specs.Wires.{wire_count}
+use Rattle.encoding.proofs.Written.{length-written}
+use Rattle.forms.proofs.shape.Apart.{Apart}
+use Rattle.forms.specs.Rows.{Satisfied, row_of}
+use Rattle.forms.specs.declared.form.Form.{Form}
+use Rattle.runs.proofs.Reaching.{apart_reached}
+use Rattle.satisfaction.proofs.Lowest.{lowest_end, lowest_fails, lowest-holds, lowest-past}
+use Rattle.satisfaction.proofs.rows_check.RowByRow.{row_below, row_judged, term_added, term_room_lem, term_within}
+use Rattle.satisfaction.proofs.sums.TermByTerm.{residues, sums_none}
+use Rattle.satisfaction.specs.Lowest.{lowest}
+use Rattle.satisfaction.proofs.rows_check.lowest_unsatisfied.Goals as goal
+
+pub row_count-end-requires : goal.row_count-end-requires
+row_count-end-requires c = c.requires.0
+
+pub rows-init : goal.rows-init
+rows-init c = record { within = omega arith; room = refl; lower = ap (lowest _ _ 0) (sym (sub-zero _)) }
+
+pub rows_held-held-requires : goal.rows_held-held-requires
+rows_held-held-requires c =
+    let p = c.requires in (
+      p.0,
+      p.1,
+      p.2,
+      p.3,
+      c.rotated_constants-constants.ensures,
+      row_below c.rows.invariant c.if-k-end.false c.row_count-end.ensures.0,
+    )
+
+pub overflow_add-k : goal.overflow_add-k
+overflow_add-k c =
+    omega (arith, c.rows_held-held.ensures.0, most_rows_lem c.args.circuit c.requires.0)
+
+pub rows-smaller-then-held-gt0 : goal.rows-smaller-then-held-gt0
+rows-smaller-then-held-gt0 c = omega (arith, c.if-held-gt0.true, c.rows_held-held.ensures.0)
+
+pub rows-preserved-then-held-gt0 : goal.rows-preserved-then-held-gt0
+rows-preserved-then-held-gt0 c =
+    let held = c.rows_held-held.ensures in
+    let inv = c.rows.invariant in
+    record { within = held.0; room = inv.room; lower = inv.lower ∙ lowest-past _ _ _ _ _ held.0 held.1.each }
+
+pub form_at-form-requires : goal.form_at-form-requires
+form_at-form-requires c =
+    (c.requires.0, row_below c.rows.invariant c.if-k-end.false c.row_count-end.ensures.0)
+
+pub form_holds-requires : goal.form_holds-requires
+form_holds-requires c =
+    let C = c.args.circuit in
+    let form = c.form_at-form.ensures in
+    let below = row_below c.rows.invariant c.if-k-end.false c.row_count-end.ensures.0 in (
+      c.requires.2,
+      c.requires.3,
+      apart_reached (wire_count C) _ c.form_at-form.result c.requires.1
+          (subst (Apart (wire_count C)) (sym form.0) (row_apart C c.requires.0 _ below)),
+      form.1,
+    )
+
+pub overflow_add-k-then-form_holds : goal.overflow_add-k-then-form_holds
+overflow_add-k-then-form_holds c =
+    omega (arith, c.rows.invariant.within, most_rows_lem c.args.circuit c.requires.0)
+
+pub rows-smaller-then-form_holds : goal.rows-smaller-then-form_holds
+rows-smaller-then-form_holds c =
+    omega (arith, row_below c.rows.invariant c.if-k-end.false c.row_count-end.ensures.0)
+
+pub rows-preserved-then-form_holds : goal.rows-preserved-then-form_holds
+unfolding row_at
+rows-preserved-then-form_holds c =
+    let inv = c.rows.invariant in
+    let bytes = c.args.assignment.now in
+    let below = row_below inv c.if-k-end.false c.row_count-end.ensures.0 in
+    record {
+      within = omega (arith, below);
+      room = inv.room;
+      lower =
+          inv.lower
+          ∙ lowest-holds _ _ _ _ below
+          (subst (λ (f : Form). Satisfied (entry bytes) (row_of f)) c.form_at-form.ensures.0 (c.form_holds.ensures c.if-form_holds.true));
+    }
+
+pub slice_bounds-fill-end : goal.slice_bounds-fill-end
+slice_bounds-fill-end c = sym c.rows.invariant.room
+
+pub fill-counts-requires : goal.fill-counts-requires
+fill-counts-requires c =
+    (omega (arith, c.rows.invariant.room), c.form_at-form.ensures.1, c.form_at-form.ensures.2)
+
+pub overflow_add-count : goal.overflow_add-count
+overflow_add-count c = omega (arith, c.fill-counts.ensures.few)
+
+pub overflow_add-count-in-rows : goal.overflow_add-count-in-rows
+overflow_add-count-in-rows c = omega (arith, c.fill-counts.ensures.few)
+
+pub loop-t-init : goal.loop-t-init
+loop-t-init c = (omega arith, sums_none _ _)
+
+pub part_product-requires : goal.part_product-requires
+part_product-requires c =
+    let below = residues _ _ _ c.loop-t.invariant.1 in
+    (below.0, below.1)
+
+pub term_at-requires : goal.term_at-requires
+term_at-requires c =
+    let inv = c.rows.invariant in
+    term_room_lem _ _ (filled_as c.form_at-form.ensures.0 c.fill-counts.ensures) inv.room _
+    (omega (arith, c.loop-t.invariant.0, c.if-t-count.false))
+
+pub term_value-requires : goal.term_value-requires
+term_value-requires c =
+    let inv = c.rows.invariant in
+    let inside = term_within _ _ (filled_as c.form_at-form.ensures.0 c.fill-counts.ensures) inv.room _
+    (omega (arith, c.loop-t.invariant.0, c.if-t-count.false)) c.requires.0
+    (row_below inv c.if-k-end.false c.row_count-end.ensures.0) c.term_at.ensures in
+    (omega (arith, inside.0, c.requires.1), inside.1, c.requires.3)
+
+pub add_term-sums-requires : goal.add_term-sums-requires
+add_term-sums-requires c =
+    let below = residues _ _ _ c.loop-t.invariant.1 in
+    (below.0, below.1, below.2, rw c.term_value.ensures (mod-lt _ (lit< tt)))
+
+pub loop-t-preserved : goal.loop-t-preserved
+loop-t-preserved c =
+    let inv = c.rows.invariant in (
+      omega (arith, c.loop-t.invariant.0, c.if-t-count.false),
+      term_added _ _ (filled_as c.form_at-form.ensures.0 c.fill-counts.ensures) inv.room _
+          (omega (arith, c.loop-t.invariant.0, c.if-t-count.false)) _ c.loop-t.invariant.1 c.term_at.ensures c.term_value.ensures
+          c.add_term-sums.ensures,
+    )
+
+pub overflow_add-k-in-rows : goal.overflow_add-k-in-rows
+overflow_add-k-in-rows c =
+    omega (arith, c.rows.invariant.within, most_rows_lem c.args.circuit c.requires.0)
+
+pub rows-smaller : goal.rows-smaller
+rows-smaller c =
+    omega (arith, row_below c.rows.invariant c.if-k-end.false c.row_count-end.ensures.0)
+
+pub rows-preserved : goal.rows-preserved
+rows-preserved c =
+    let inv = c.rows.invariant in
+    let below = row_below inv c.if-k-end.false c.row_count-end.ensures.0 in
+    let row = row_judged _ _ (filled_as c.form_at-form.ensures.0 c.fill-counts.ensures) _ _ c.loop-t.invariant.1 c.if-t-count.true in
+    record {
+      within = omega (arith, below);
+      room = length-written c.fill-counts.ensures.written ∙ inv.room;
+      lower =
+          inv.lower
+          ∙ lowest-holds _ _ _ _ below (sym row ∙ eq-eqb _ _ (sym c.part_product.ensures ∙ c.if-part_product-sums.false));
+    }
+
+pub returns-then-k-end : goal.returns-then-k-end
+returns-then-k-end c =
+    sym (c.rows.invariant.lower ∙ lowest_end _ _ _ _ (c.if-k-end.true ∙ c.row_count-end.ensures.0))
+
+pub returns-then-part_product-sums : goal.returns-then-part_product-sums
+returns-then-part_product-sums c =
+    let inv = c.rows.invariant in
+    let row = row_judged _ _ (filled_as c.form_at-form.ensures.0 c.fill-counts.ensures) _ _ c.loop-t.invariant.1 c.if-t-count.true in
+    sym
+    (inv.lower
+    ∙ lowest_fails _ _ _ _ (row_below inv c.if-k-end.false c.row_count-end.ensures.0)
+    (sym row ∙ ne_eqb _ _ (λ e. c.if-part_product-sums.true (c.part_product.ensures ∙ e))))
