@@ -14,7 +14,7 @@ use Rattle.axles.specs.Band.{InBand, IsDigit, axles_in, in_band, tens_place, uni
 use Rattle.axles.specs.Layout.{axles_of, digit, tens, units}
 use Rattle.encoding.proofs.Bits.{number_cong, number_of-bits}
 use Rattle.encoding.proofs.Sequence.{Each}
-use Rattle.encoding.specs.Bits.{bit_of_bytes, number}
+use Rattle.encoding.specs.Bits.{bit_of_bytes}
 use Rattle.encoding.specs.Bytes.{Bytes}
 use Rattle.forms.specs.WordWires.{number_wires}
 use Rattle.text.specs.Decimal.{is_digit}

@@ -1,5 +1,5 @@
 -- The band and the wires of a record are functions of its 504 bits.
-use mathlib.Core.Path.{◌≡◌, ◌∙◌, ap, ap₂, sym}
+use mathlib.Core.Path.{◌≡◌, ◌∙◌, ap₂, sym}
 use Prim.Native.Nat.{ℕ, ◌+◌, ◌*◌, ◌<◌}
 use native.Mathlib.Omega.{arith}
 use Rattle.axles.proofs.Bands.{BandBits}

@@ -17,20 +17,20 @@ fn input_space() -> [u8; INPUT_ROOM]
 }
 
 // Prints the answer to the bytes of standard input.
-pub fn print_answer(input: &[u8]) {
+pub fn print_answer(rt: &HostRuntime, input: &[u8]) {
     let mut room = assignment_space();
     let answer = answer_to(input, &mut room);
     let mut out = [0u8; 32];
     let n = put_answer(&mut out, answer);
-    print(&out[..n]);
+    print(rt, &out[..n]);
 }
 
 // Prints the answer to the claim on standard input.
-pub fn run() {
+pub fn run(rt: &HostRuntime) {
     let mut input = input_space();
-    let Input::Bytes(n) = read_input(&mut input) else {
-        say_unread();
+    let Input::Bytes(n) = read_input(rt, &mut input) else {
+        say_unread(rt);
         return;
     };
-    print_answer(&input[..n]);
+    print_answer(rt, &input[..n]);
 }

@@ -21,14 +21,15 @@ ghost use Rattle.circuit.specs.GivenRow.{row_bytes};
 ghost use Rattle.limits.specs.Blocks.{most_bits};
 
 use circuit::given_row::{ROW_BYTES, RowAnswer};
+use console::print;
 use encoding::packed::packed_length;
 use encoding::read::{eight_bytes, four_bytes};
-use libc::STDOUT_FILENO;
 use limits::limit::OUR_LIMIT;
 use record::row::row;
 use refusal::numbers::RowNumber;
 use refusal::outcome::number_of;
 use sample::counted;
+use text::decimal::put_decimal;
 
 // 2^63, from which on eight bytes of two's complement are negative.
 const SIGN_BIT: u64 = 9223372036854775808;
@@ -40,104 +41,107 @@ fn hex_digit(x: u8) -> u8 {
 }
 
 // A digest as 64 hexadecimal digits and a line feed.
-fn print_digest(digest: &[u8; 32]) {
+fn print_digest(rt: &HostRuntime, digest: &[u8; 32]) {
     let mut line = [10u8; 65];
     for k in 0..32 {
         line[2 * k] = hex_digit(digest[k] / 16);
         line[2 * k + 1] = hex_digit(digest[k]);
     }
-    io::write_all(STDOUT_FILENO, &line);
+    print(rt, &line);
 }
 
 // The digest of a record of so many bits, printed.
-fn show(bits: u64, bytes: &[u8]) {
+fn show(rt: &HostRuntime, bits: u64, bytes: &[u8]) {
     let mut out = [0u8; 32];
     sm3::digest::digest(OUR_LIMIT, bits, bytes, &mut out);
-    print_digest(&out);
+    print_digest(rt, &out);
 }
 
 // The record of so many bits whose byte k is k mod 251.
-fn show_counted(bits: u64)
+fn show_counted(rt: &HostRuntime, bits: u64)
     requires { bits ≤ most_bits }
 {
     let bytes = counted(bits);
     let end = packed_length(bits) as usize;
-    show(bits, &bytes[..end]);
+    show(rt, bits, &bytes[..end]);
 }
 
 // A number in decimal, and a blank.
-fn print_number(x: u64) {
-    io::print_decimal(STDOUT_FILENO, x);
-    io::write_all(STDOUT_FILENO, b" ");
+fn print_number(rt: &HostRuntime, x: u64) {
+    let mut digits = [0u8; 20];
+    let end = put_decimal(&mut digits, 0, x);
+    print(rt, &digits[..end]);
+    print(rt, b" ");
 }
 
 // The number whose two's complement in eight bytes is x, in decimal, and a blank.
-fn print_signed(x: u64) {
+fn print_signed(rt: &HostRuntime, x: u64) {
     if x < SIGN_BIT {
-        print_number(x);
+        print_number(rt, x);
         return;
     }
-    io::write_all(STDOUT_FILENO, b"-");
-    print_number(std::num::wrapping_sub_u64(0, x));
+    print(rt, b"-");
+    print_number(rt, std::num::wrapping_sub_u64(0, x));
 }
 
 // The wire and the coefficient of the term in twelve bytes from `at` on.
-fn print_term(bytes: &[u8; ROW_BYTES], at: usize)
+fn print_term(rt: &HostRuntime, bytes: &[u8; ROW_BYTES], at: usize)
     requires { at + 12 ≤ row_bytes }
 {
-    print_number(four_bytes(bytes, at));
-    print_signed(eight_bytes(bytes, at + 4));
+    print_number(rt, four_bytes(bytes, at));
+    print_signed(rt, eight_bytes(bytes, at + 4));
 }
 
 // The counts of a row and its first three terms.
-fn print_row(a: u64, b: u64, c: u64, bytes: &[u8; ROW_BYTES]) {
-    print_number(0);
-    print_number(a);
-    print_number(b);
-    print_number(c);
-    print_term(bytes, 0);
-    print_term(bytes, 12);
-    print_term(bytes, 24);
+fn print_row(rt: &HostRuntime, a: u64, b: u64, c: u64, bytes: &[u8; ROW_BYTES]) {
+    print_number(rt, 0);
+    print_number(rt, a);
+    print_number(rt, b);
+    print_number(rt, c);
+    print_term(rt, bytes, 0);
+    print_term(rt, bytes, 12);
+    print_term(rt, bytes, 24);
 }
 
 // The row of a number for a record of so many bits: the refusal's number, or 0, the counts and three terms.
-fn show_row(bits: u64, number: u64) {
+fn show_row(rt: &HostRuntime, bits: u64, number: u64) {
     let mut out = [0u8; ROW_BYTES];
     let answer = row(OUR_LIMIT, bits, RowNumber(number), &mut out);
     match answer {
-        RowAnswer::Given { a, b, c } => print_row(a, b, c, &out),
-        RowAnswer::Refused(refusal) => print_number(number_of(refusal)),
+        RowAnswer::Given { a, b, c } => print_row(rt, a, b, c, &out),
+        RowAnswer::Refused(refusal) => print_number(rt, number_of(refusal)),
     }
-    io::write_all(STDOUT_FILENO, b"\n");
+    print(rt, b"\n");
 }
 
-fn main() {
-    show(24, b"abc");
+fn main(rt: HostRuntime) {
+    show(&rt, 24, b"abc");
     show(
+        &rt,
         512,
         b"abcdabcdabcdabcdabcdabcdabcdabcdabcdabcdabcdabcdabcdabcdabcdabcd",
     );
-    show_counted(0);
-    show_counted(440);
-    show_counted(448);
-    show_counted(504);
-    show_counted(512);
-    show_counted(952);
-    show_counted(960);
-    show_counted(8120);
-    show_counted(1);
-    show_counted(5);
-    show_counted(447);
-    show_counted(449);
-    show_counted(505);
-    show_counted(511);
-    show_counted(959);
-    show_counted(961);
-    show_counted(8127);
-    show_row(0, 256);
-    show_row(8, 256);
-    show_row(1, 256);
-    show_row(1, 257);
-    show_row(0, 32576);
-    show_row(0, 32832);
+    show_counted(&rt, 0);
+    show_counted(&rt, 440);
+    show_counted(&rt, 448);
+    show_counted(&rt, 504);
+    show_counted(&rt, 512);
+    show_counted(&rt, 952);
+    show_counted(&rt, 960);
+    show_counted(&rt, 8120);
+    show_counted(&rt, 1);
+    show_counted(&rt, 5);
+    show_counted(&rt, 447);
+    show_counted(&rt, 449);
+    show_counted(&rt, 505);
+    show_counted(&rt, 511);
+    show_counted(&rt, 959);
+    show_counted(&rt, 961);
+    show_counted(&rt, 8127);
+    show_row(&rt, 0, 256);
+    show_row(&rt, 8, 256);
+    show_row(&rt, 1, 256);
+    show_row(&rt, 1, 257);
+    show_row(&rt, 0, 32576);
+    show_row(&rt, 0, 32832);
 }

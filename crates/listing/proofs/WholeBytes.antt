@@ -14,4 +14,4 @@ pub listing_whole_bytes : WholeBytes
 unfolding checked within
 listing_whole_bytes L f h =
     ours_stand Request Refused (λ answer. answer) (8 * L) (within (Record (8 * L)) f h)
-    ∙ rw (whole_bytes.range L, (circuit.whole_bytes).row_count L)
+    ∙ rw (whole_bytes.range L, (circuit.whole_bytes).row_count_lem L)

@@ -3,6 +3,6 @@
 
 use claim::program::run;
 
-fn main() {
-    run();
+fn main(rt: HostRuntime) {
+    run(&rt);
 }

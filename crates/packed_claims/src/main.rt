@@ -49,56 +49,62 @@ fn put_claim(input: &mut [u8])
 }
 
 // Prints the answer to the first n bytes with some bits of byte `at` turned over. The byte is then as it was.
-fn turn(input: &mut [u8], n: usize, at: usize, bits: u8)
+fn turn(rt: &HostRuntime, input: &mut [u8], n: usize, at: usize, bits: u8)
     requires { (n ≤ length input.old) × (at < length input.old) }
 {
     let held = input[at];
     input[at] = held ^ bits;
-    print_answer(&input[..n]);
+    print_answer(rt, &input[..n]);
     input[at] = held;
 }
 
 // Refusal 1: a length that is no number, an upper-case digit, a carriage return for the line feed, a digit too few, nothing.
-fn turn_line(input: &mut [u8])
+fn turn_line(rt: &HostRuntime, input: &mut [u8])
     requires { length input.old ≡ 2950 }
 {
-    turn(input, CLAIM, 0, 16);
-    turn(input, CLAIM, 5, 32);
-    turn(input, CLAIM, LINE - 1, 7);
-    print_answer(b"24,66c7f0f462eeedd9d1f2d46bdc10e4e24167c4875cf2f7a2297da02b8f4ba8e\n");
-    print_answer(b"");
+    turn(rt, input, CLAIM, 0, 16);
+    turn(rt, input, CLAIM, 5, 32);
+    turn(rt, input, CLAIM, LINE - 1, 7);
+    print_answer(
+        rt,
+        b"24,66c7f0f462eeedd9d1f2d46bdc10e4e24167c4875cf2f7a2297da02b8f4ba8e\n",
+    );
+    print_answer(rt, b"");
 }
 
 // Refusal 2, without packed bytes; 11: none, one too few, one too many; 12: the lowest and the highest spare bit.
-fn turn_lengths(input: &mut [u8])
+fn turn_lengths(rt: &HostRuntime, input: &mut [u8])
     requires { length input.old ≡ 2950 }
 {
-    print_answer(b"8128,66c7f0f462eeedd9d1f2d46bdc10e4e24167c4875cf2f7a2297da02b8f4ba8e0\n");
-    turn(input, LINE, 0, 0);
-    turn(input, CLAIM - 1, 0, 0);
-    turn(input, ROOM, 0, 0);
-    turn(input, CLAIM, CLAIM - 1, 1);
-    turn(input, CLAIM, CLAIM - 1, 64);
+    print_answer(
+        rt,
+        b"8128,66c7f0f462eeedd9d1f2d46bdc10e4e24167c4875cf2f7a2297da02b8f4ba8e0\n",
+    );
+    turn(rt, input, LINE, 0, 0);
+    turn(rt, input, CLAIM - 1, 0, 0);
+    turn(rt, input, ROOM, 0, 0);
+    turn(rt, input, CLAIM, CLAIM - 1, 1);
+    turn(rt, input, CLAIM, CLAIM - 1, 64);
 }
 
 // Refusal 7: wire 0; 8: the first digest wire, and a digit of the digest; 9: the first start wire, the last of all, and a length of
 // one bit more.
-fn turn_wires(input: &mut [u8])
+fn turn_wires(rt: &HostRuntime, input: &mut [u8])
     requires { length input.old ≡ 2950 }
 {
-    turn(input, CLAIM, LINE, 128);
-    turn(input, CLAIM, LINE, 64);
-    turn(input, CLAIM, 3, 1);
-    turn(input, CLAIM, LINE + 32, 64);
-    turn(input, CLAIM, CLAIM - 1, 128);
-    turn(input, CLAIM, 1, 1);
+    turn(rt, input, CLAIM, LINE, 128);
+    turn(rt, input, CLAIM, LINE, 64);
+    turn(rt, input, CLAIM, 3, 1);
+    turn(rt, input, CLAIM, LINE + 32, 64);
+    turn(rt, input, CLAIM, CLAIM - 1, 128);
+    turn(rt, input, CLAIM, 1, 1);
 }
 
-fn main() {
+fn main(rt: HostRuntime) {
     let mut input = [0u8; ROOM];
     put_claim(&mut input);
-    turn(&mut input, CLAIM, 0, 0);
-    turn_line(&mut input);
-    turn_lengths(&mut input);
-    turn_wires(&mut input);
+    turn(&rt, &mut input, CLAIM, 0, 0);
+    turn_line(&rt, &mut input);
+    turn_lengths(&rt, &mut input);
+    turn_wires(&rt, &mut input);
 }

@@ -26,7 +26,6 @@ use Rattle.passage.specs.declared.read.Reading.{Reading}
 use Rattle.refusal.proofs.Tests.{equal_iff, past, refused_done}
 use Rattle.refusal.specs.declared.outcome.Outcome.TheVariants.{Done, Refused}
 use Rattle.refusal.specs.declared.outcome.Outcome.{Outcome}
-use Rattle.refusal.specs.declared.outcome.Refusal.{Refusal}
 use Rattle.refusal.specs.declared.outcome.Refusal.TheVariants.{LaneOrAxlesTooLow, LineNot63, WrongByte}
 use Rattle.text.specs.Decimal.{is_digit}
 use Rattle.text.specs.Text.{comma}

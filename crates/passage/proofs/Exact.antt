@@ -16,7 +16,6 @@ use Rattle.passage.specs.Format.{allowed_at, allows, follows, is_plate_byte, kin
 use Rattle.passage.specs.Read.{bytes_answer, numbers_in, read_answer}
 use Rattle.passage.specs.Runs.{Run}
 use Rattle.passage.specs.declared.format.Kind.TheVariants.{Comma, Digit, Hex}
-use Rattle.passage.specs.declared.format.Kind.{Kind}
 use Rattle.passage.specs.declared.read.Reading.TheVariants.{Given}
 use Rattle.refusal.specs.declared.outcome.Outcome.TheVariants.{Done}
 use Rattle.text.proofs.Digits.{digit_bounds}

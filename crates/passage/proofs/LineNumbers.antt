@@ -1,6 +1,6 @@
 -- The numbers of a line that is written. Where its places allow them each fits its digits, and then what is read from the line is what was
 -- written.
-use mathlib.Core.Bool.{and-eq-true_iff, true}
+use mathlib.Core.Bool.{and-eq-true_iff}
 use mathlib.Core.List.{List}
 use mathlib.Core.Path.{◌≡◌, ◌∙◌, ap, sym}
 use Prim.Native.Nat.{ℕ, ◌<◌, ◌^◌}

@@ -6,7 +6,7 @@ use native.Mathlib.Omega.{arith}
 use lib.ListN.{get_or-append, drop, get_or, length, length-append}
 use lib.Seq.{drop_at, drop-drop, get_or_at, get_or-drop}
 use Rattle.passage.proofs.Numerals.{length-numeral}
-use Rattle.passage.specs.Format.{axles, class, lane, line_length, time}
+use Rattle.passage.specs.Format.{axles, class, line_length, time}
 use Rattle.passage.specs.Write.{line_of, numeral}
 use Rattle.passage.specs.declared.numbers.Numbers.{Numbers}
 use Rattle.text.specs.Text.{comma}

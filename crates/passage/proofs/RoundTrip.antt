@@ -20,16 +20,14 @@ use Rattle.passage.proofs.Next.{next_done}
 use Rattle.passage.proofs.Numerals.{numeral-number}
 use Rattle.passage.specs.Format.{axles, blind, bytes_in, class, kind_at, line_length, number_in, plate}
 use Rattle.passage.specs.Front.{Fit}
-use Rattle.passage.specs.Read.{bytes_answer, next, numbers_in, read_answer}
+use Rattle.passage.specs.Read.{bytes_answer, numbers_in, read_answer}
 use Rattle.passage.specs.RoundTrip.{RoundTrip, line_left}
 use Rattle.passage.specs.Write.{line_of, write_answer, write_left}
 use Rattle.passage.specs.declared.format.Kind.TheVariants.{Comma}
 use Rattle.passage.specs.declared.numbers.Numbers.{Numbers}
 use Rattle.passage.specs.declared.read.Reading.TheVariants.{Given}
-use Rattle.passage.specs.declared.read.Reading.{Reading}
 use Rattle.refusal.proofs.Tests.{equal_iff, past}
 use Rattle.refusal.specs.declared.outcome.Outcome.TheVariants.{Done, Refused}
-use Rattle.refusal.specs.declared.outcome.Outcome.{Outcome}
 use Rattle.refusal.specs.declared.outcome.Refusal.TheVariants.{BufferTooShort, LineNot63}
 use Rattle.text.specs.Text.{comma}
 

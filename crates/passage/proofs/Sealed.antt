@@ -1,6 +1,5 @@
 -- A line that is sealed is a record of 504 bits, and what `seal` leaves is what digest and producer leave of it; so demand 3's last
 -- sentence says that it is accepted.
-use mathlib.Core.Bool.{false}
 use mathlib.Core.List.{List}
 use mathlib.Core.Path.{◌≡◌, ◌∙◌, ap, sym}
 use Prim.Native.Nat.{ℕ, ◌*◌, ◌≤◌}
@@ -10,7 +9,6 @@ use lib.ListN.{drop, length, take}
 use lib.Seq.{take_at}
 use Rattle.circuit.specs.Wires.{wire_count}
 use Rattle.circuit.specs.declared.circuits.Circuit.TheVariants.{Record}
-use Rattle.encoding.specs.Bytes.{Bytes}
 use Rattle.limits.specs.Limit.{partner_limit}
 use Rattle.passage.proofs.Answers.{line_right}
 use Rattle.passage.proofs.Next.{neither, next_done}

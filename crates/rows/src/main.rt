@@ -5,6 +5,6 @@ use listing::program::run;
 use listing::progress::Listing;
 use listing::request::Front;
 
-fn main() {
-    run(Listing::Rows, Front::Length);
+fn main(rt: HostRuntime) {
+    run(&rt, Listing::Rows, Front::Length);
 }

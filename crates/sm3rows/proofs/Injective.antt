@@ -1,13 +1,12 @@
 -- The packing of a row's answer is injective, as that of refusals is: the low byte tells whether it is a refusal, and each count of a row
 -- has a byte above it.
-use mathlib.Core.Bool.{cond}
 use mathlib.Core.List.{[], ◌∷◌}
 use mathlib.Core.Path.{◌≡◌, ◌∙◌, ap, refl, sym}
 use Prim.Native.Nat.{ℕ, ◌/◌, ◌%◌}
 use native.Mathlib.Omega.{arith}
 use Rattle.circuit.specs.declared.given_row.RowAnswer.{RowAnswer}
 use Rattle.circuit.specs.declared.given_row.RowAnswer.TheVariants.{Given, Refused}
-use Rattle.refusal.proofs.Injective.{apart, injective, refusal_injective, refused}
+use Rattle.refusal.proofs.Injective.{apart, refusal_injective, refused}
 use Rattle.refusal.specs.Packing.{above}
 use Rattle.sm3rows.specs.Packing.{packed_row}
 use Rattle.sm3rows.specs.Small.{SmallRow}

@@ -1,6 +1,6 @@
 -- The operations' answers have room in one number. Most refusals have no value. A row that is given is one of the record's, and no row has
 -- over 163 terms; a row or a wire that is named is below the count, and no record that is in range has over 16 blocks.
-use mathlib.Core.Bool.{false, not}
+use mathlib.Core.Bool.{not}
 use mathlib.Core.List.{List}
 use mathlib.Core.Path.{refl}
 use Prim.Native.Nat.{ℕ, ◌*◌, ◌<◌}

@@ -20,21 +20,36 @@ use refusal::numbers::WireNumber;
 const LARGEST: u64 = 18446744073709551615;
 
 // The check of an assignment with the entry of wire w set to v. The entry is then as it was.
-fn disturb(bits: u64, what: &[u8], digest: &[u8], assignment: &mut [u8], w: WireNumber, v: u64)
+fn disturb(
+    rt: &HostRuntime,
+    bits: u64,
+    what: &[u8],
+    digest: &[u8],
+    assignment: &mut [u8],
+    w: WireNumber,
+    v: u64,
+)
     requires { 8 * (w.0 + 1) ≤ length assignment.old }
 {
     let held = read(assignment, w);
     put_entry(assignment, w, v);
-    show(bits, what, check(OUR_LIMIT, bits, digest, assignment));
+    show(rt, bits, what, check(OUR_LIMIT, bits, digest, assignment));
     put_entry(assignment, w, held);
 }
 
 // The same with the entry of wire w changed from 0 to 1, or from 1 to 0.
-fn change(bits: u64, what: &[u8], digest: &[u8], assignment: &mut [u8], w: WireNumber)
+fn change(
+    rt: &HostRuntime,
+    bits: u64,
+    what: &[u8],
+    digest: &[u8],
+    assignment: &mut [u8],
+    w: WireNumber,
+)
     requires { 8 * (w.0 + 1) ≤ length assignment.old }
 {
     let v = 1 - read(assignment, w) % 2;
-    disturb(bits, what, digest, assignment, w, v);
+    disturb(rt, bits, what, digest, assignment, w, v);
 }
 
 // The wire of bit k of the message of a record of so many bits: a bit of the record, or the first of its padding.
@@ -55,47 +70,53 @@ fn last_block(bits: u64) -> WireNumber
 }
 
 // Wires before the blocks: wire 0, the first of the digest and the first of the start words.
-fn change_frame(bits: u64, digest: &[u8], assignment: &mut [u8])
+fn change_frame(rt: &HostRuntime, bits: u64, digest: &[u8], assignment: &mut [u8])
     requires { 8 * first_block ≤ length assignment.old }
 {
-    change(bits, b"one", digest, assignment, WireNumber(0));
-    change(bits, b"digest", digest, assignment, WireNumber(DIGEST));
-    change(bits, b"start", digest, assignment, WireNumber(START));
+    change(rt, bits, b"one", digest, assignment, WireNumber(0));
+    change(rt, bits, b"digest", digest, assignment, WireNumber(DIGEST));
+    change(rt, bits, b"start", digest, assignment, WireNumber(START));
 }
 
 // Wires of the message: the padding's first bit, and the record's last where it has one.
-fn change_message(bits: u64, digest: &[u8], assignment: &mut [u8])
+fn change_message(rt: &HostRuntime, bits: u64, digest: &[u8], assignment: &mut [u8])
     requires { (bits ≤ most_bits) × (length assignment.old ≡ 8 * wire_count (Record bits)) }
 {
     let padding = message_wire(bits, bits);
-    change(bits, b"padding", digest, assignment, padding);
+    change(rt, bits, b"padding", digest, assignment, padding);
     if bits == 0 {
         return;
     }
     let record = message_wire(bits, bits - 1);
-    change(bits, b"record", digest, assignment, record);
+    change(rt, bits, b"record", digest, assignment, record);
 }
 
 // A wire that becomes 2, the greatest number below the prime, the prime, and the greatest number that an entry has room for.
-fn change_to_no_bit(bits: u64, digest: &[u8], assignment: &mut [u8], w: WireNumber)
+fn change_to_no_bit(
+    rt: &HostRuntime,
+    bits: u64,
+    digest: &[u8],
+    assignment: &mut [u8],
+    w: WireNumber,
+)
     requires { 8 * (w.0 + 1) ≤ length assignment.old }
 {
-    disturb(bits, b"two", digest, assignment, w, 2);
-    disturb(bits, b"below", digest, assignment, w, P - 1);
-    disturb(bits, b"prime", digest, assignment, w, P);
-    disturb(bits, b"largest", digest, assignment, w, LARGEST);
+    disturb(rt, bits, b"two", digest, assignment, w, 2);
+    disturb(rt, bits, b"below", digest, assignment, w, P - 1);
+    disturb(rt, bits, b"prime", digest, assignment, w, P);
+    disturb(rt, bits, b"largest", digest, assignment, w, LARGEST);
 }
 
 // Wires of the last block: a carry of its last round, and the last wire of its result.
-fn change_last_block(bits: u64, digest: &[u8], assignment: &mut [u8])
+fn change_last_block(rt: &HostRuntime, bits: u64, digest: &[u8], assignment: &mut [u8])
     requires { (bits ≤ most_bits) × (length assignment.old ≡ 8 * wire_count (Record bits)) }
 {
     let last = last_block(bits);
     let carry = last.0 + ROUNDS + ROUND_WIDTH * 63 + TT2 + 33;
-    change(bits, b"carry", digest, assignment, WireNumber(carry));
-    change_to_no_bit(bits, digest, assignment, WireNumber(carry));
+    change(rt, bits, b"carry", digest, assignment, WireNumber(carry));
+    change_to_no_bit(rt, bits, digest, assignment, WireNumber(carry));
     let result = last.0 + BLOCK_WIRES - 1;
-    change(bits, b"result", digest, assignment, WireNumber(result));
+    change(rt, bits, b"result", digest, assignment, WireNumber(result));
 }
 
 // A digest with another first bit.
@@ -108,12 +129,17 @@ fn other_digest(digest: [u8; 32]) -> [u8; 32]
 }
 
 // Another digest held against the assignment, as it is and with the digest's first wire changed too.
-fn change_digest(bits: u64, digest: [u8; 32], assignment: &mut [u8])
+fn change_digest(rt: &HostRuntime, bits: u64, digest: [u8; 32], assignment: &mut [u8])
     requires { 8 * first_block ≤ length assignment.old }
 {
     let other = other_digest(digest);
-    show(bits, b"other", check(OUR_LIMIT, bits, &other, assignment));
-    change(bits, b"both", &other, assignment, WireNumber(DIGEST));
+    show(
+        rt,
+        bits,
+        b"other",
+        check(OUR_LIMIT, bits, &other, assignment),
+    );
+    change(rt, bits, b"both", &other, assignment, WireNumber(DIGEST));
 }
 
 // Some bytes without the last.
@@ -125,18 +151,19 @@ fn all_but_last(bytes: &[u8]) -> &[u8]
 }
 
 // A length that is too long, and a digest and an assignment that lack a byte.
-fn change_lengths(bits: u64, digest: &[u8], assignment: &[u8])
+fn change_lengths(rt: &HostRuntime, bits: u64, digest: &[u8], assignment: &[u8])
     requires { (1 ≤ length digest.now) × (1 ≤ length assignment.now) }
 {
     show(
+        rt,
         bits,
         b"length",
         check(OUR_LIMIT, MOST_BITS + 1, digest, assignment),
     );
     let digest31 = check(OUR_LIMIT, bits, all_but_last(digest), assignment);
-    show(bits, b"digest31", digest31);
+    show(rt, bits, b"digest31", digest31);
     let short = check(OUR_LIMIT, bits, digest, all_but_last(assignment));
-    show(bits, b"short", short);
+    show(rt, bits, b"short", short);
 }
 
 // p added to every entry, of which each is 0 or 1.
@@ -149,14 +176,19 @@ fn add_p(assignment: &mut [u8]) {
 }
 
 // Every change to an assignment that is accepted, and the check after each.
-pub fn change_all(bits: u64, digest: [u8; 32], assignment: &mut [u8])
+pub fn change_all(rt: &HostRuntime, bits: u64, digest: [u8; 32], assignment: &mut [u8])
     requires { (bits ≤ most_bits) × (length digest ≡ 32) × (length assignment.old ≡ 8 * wire_count (Record bits)) × (8 * first_block ≤ length assignment.old) }
 {
-    change_frame(bits, &digest, assignment);
-    change_message(bits, &digest, assignment);
-    change_last_block(bits, &digest, assignment);
-    change_digest(bits, digest, assignment);
-    change_lengths(bits, &digest, assignment);
+    change_frame(rt, bits, &digest, assignment);
+    change_message(rt, bits, &digest, assignment);
+    change_last_block(rt, bits, &digest, assignment);
+    change_digest(rt, bits, digest, assignment);
+    change_lengths(rt, bits, &digest, assignment);
     add_p(assignment);
-    show(bits, b"plus_p", check(OUR_LIMIT, bits, &digest, assignment));
+    show(
+        rt,
+        bits,
+        b"plus_p",
+        check(OUR_LIMIT, bits, &digest, assignment),
+    );
 }

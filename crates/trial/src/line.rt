@@ -1,40 +1,48 @@
 // The line that a check prints.
-use libc::STDOUT_FILENO;
+use console::print;
 use refusal::outcome::{Outcome, Refusal, number_of};
+use text::decimal::put_decimal;
+
+// A number in decimal.
+fn print_decimal(rt: &HostRuntime, number: u64) {
+    let mut digits = [0u8; 20];
+    let end = put_decimal(&mut digits, 0, number);
+    print(rt, &digits[..end]);
+}
 
 // The row or the wire that a refusal names.
-fn print_named(number: u64) {
-    io::write_all(STDOUT_FILENO, b",");
-    io::print_decimal(STDOUT_FILENO, number);
+fn print_named(rt: &HostRuntime, number: u64) {
+    print(rt, b",");
+    print_decimal(rt, number);
 }
 
 // The number of a refusal, and the row or the wire that it names.
-fn print_refusal(refusal: Refusal) {
-    io::print_decimal(STDOUT_FILENO, number_of(refusal));
+fn print_refusal(rt: &HostRuntime, refusal: Refusal) {
+    print_decimal(rt, number_of(refusal));
     if let Refusal::Unsatisfied(row) = refusal {
-        print_named(row.0);
+        print_named(rt, row.0);
     }
     if let Refusal::EntryNotBelowPrime(wire) = refusal {
-        print_named(wire.0);
+        print_named(rt, wire.0);
     }
 }
 
 // The number of an outcome, 0 where nothing is refused.
-fn print_outcome(outcome: Outcome) {
+fn print_outcome(rt: &HostRuntime, outcome: Outcome) {
     match outcome {
         Outcome::Done => {
-            io::print_decimal(STDOUT_FILENO, 0);
+            print_decimal(rt, 0);
         }
-        Outcome::Refused(refusal) => print_refusal(refusal),
+        Outcome::Refused(refusal) => print_refusal(rt, refusal),
     }
 }
 
 // The line of a check: the record's length in bits, what was done, the refusal's number, and the row or the wire where it names one.
-pub fn show(bits: u64, what: &[u8], outcome: Outcome) {
-    io::print_decimal(STDOUT_FILENO, bits);
-    io::write_all(STDOUT_FILENO, b",");
-    io::write_all(STDOUT_FILENO, what);
-    io::write_all(STDOUT_FILENO, b",");
-    print_outcome(outcome);
-    io::write_all(STDOUT_FILENO, b"\n");
+pub fn show(rt: &HostRuntime, bits: u64, what: &[u8], outcome: Outcome) {
+    print_decimal(rt, bits);
+    print(rt, b",");
+    print(rt, what);
+    print(rt, b",");
+    print_outcome(rt, outcome);
+    print(rt, b"\n");
 }

@@ -61,45 +61,46 @@ fn produce_and_check(bits: u64, bytes: &[u8], sum: &mut [u8], out: &mut [u8]) ->
 }
 
 // A record's assignment is produced, checked, and changed.
-fn try_record(bits: u64, bytes: &[u8], room: &mut [u8])
+fn try_record(rt: &HostRuntime, bits: u64, bytes: &[u8], room: &mut [u8])
     requires { (bits ≤ most_bits) × (length bytes.now ≡ packed_length bits) × (spare_bits bits bytes.now ≡ 0) × (length room.old ≡ 2887688) }
 {
     let mut sum = [0u8; 32];
     show(
+        rt,
         bits,
         b"produced",
         produce_and_check(bits, bytes, &mut sum, room),
     );
     let end = (8 * wire_count(Circuit::Record { bits })) as usize;
-    change_all(bits, sum, &mut room[..end]);
+    change_all(rt, bits, sum, &mut room[..end]);
 }
 
 // The same for a record as it is handed over; none is refused here.
-fn try_handed(bits: u64, bytes: &[u8], room: &mut [u8])
+fn try_handed(rt: &HostRuntime, bits: u64, bytes: &[u8], room: &mut [u8])
     requires { length room.old ≡ 2887688 }
 {
     let answer = ask_record(OUR_LIMIT, bits, bytes);
     match answer {
-        Outcome::Done => try_record(bits, bytes, room),
-        Outcome::Refused(refusal) => show(bits, b"handed", Outcome::Refused(refusal)),
+        Outcome::Done => try_record(rt, bits, bytes, room),
+        Outcome::Refused(refusal) => show(rt, bits, b"handed", Outcome::Refused(refusal)),
     }
 }
 
 // The same for the record of so many bits whose byte k is k mod 251.
-fn try_length(bits: u64, room: &mut [u8])
+fn try_length(rt: &HostRuntime, bits: u64, room: &mut [u8])
     requires { (bits ≤ most_bits) × (length room.old ≡ 2887688) }
 {
     let bytes = counted(bits);
     let end = packed_length(bits) as usize;
-    try_handed(bits, &bytes[..end], room);
+    try_handed(rt, bits, &bytes[..end], room);
 }
 
-fn main() {
+fn main(rt: HostRuntime) {
     let mut room = assignment_space();
-    try_length(0, &mut room);
-    try_length(440, &mut room);
-    try_length(448, &mut room);
-    try_length(512, &mut room);
-    try_length(8120, &mut room);
-    try_length(8127, &mut room);
+    try_length(&rt, 0, &mut room);
+    try_length(&rt, 440, &mut room);
+    try_length(&rt, 448, &mut room);
+    try_length(&rt, 512, &mut room);
+    try_length(&rt, 8120, &mut room);
+    try_length(&rt, 8127, &mut room);
 }

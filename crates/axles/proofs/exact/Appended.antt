@@ -14,7 +14,6 @@ use Rattle.axles.specs.Layout.{appended, axles_of, digit, numbers, tens, units}
 use Rattle.circuit.specs.Axles.{above_lower, axle_form, axles, below_upper, digit_of, high_half, tens_byte, tens_left, units_byte, units_left}
 use Rattle.encoding.proofs.Bits.{number_cong, number_lt}
 use Rattle.encoding.proofs.Sequence.{Each, each_beside, each_iff}
-use Rattle.encoding.specs.Bits.{number}
 use Rattle.forms.proofs.exact.Differences.{difference_run, digits_on, number_on}
 use Rattle.forms.proofs.exact.Parts.{agree_beside}
 use Rattle.forms.proofs.exact.Runs.{Agree, Holds, Judged, and_given}

@@ -1,0 +1,12 @@
+-- The operation's own answer, put into its number, for which any row that it names is small enough.
+use mathlib.Core.Path.{◌∙◌, ap, subst, sym}
+use Rattle.record.proofs.check.Small.{check_small}
+use Rattle.refusal.proofs.Small.{Small}
+use Rattle.refusal.specs.Packing.{packed_outcome}
+use Rattle.passage_c.proofs.passage_check.Goals as goal
+
+pub pack_outcome-requires : goal.pack_outcome-requires
+pack_outcome-requires c = (subst Small (sym c.check.ensures) (check_small _ _ _ _)).room
+
+pub returns : goal.returns
+returns c = c.pack_outcome.ensures ∙ ap packed_outcome c.check.ensures
