@@ -3,15 +3,14 @@
 # inside a byte beside those of whole bytes, those of the producer's blocks with the lines that are missed by caches as
 # large as this machine's first two, those of a check of right assignments and of ones with an entry turned over, those of
 # packing, those of a passage line, and those of its axles between two bounds.
-# SM3ROWS_LIB and PASSAGE_LIB name the archives; without them, they are those that `rt staticlib sm3rows` and
-# `rt staticlib passage_c` write.
+# SM3ROWS_LIB and PASSAGE_LIB name the archives; without them, they are those that `sh tools/build.sh` writes.
 set -eu
 
 root=$(cd "$(dirname "$0")/.." && pwd)
 archive=${SM3ROWS_LIB:-$root/target/staticlib/libsm3rows.a}
 passage=${PASSAGE_LIB:-$root/target/staticlib/libpassage_c.a}
-[ -f "$archive" ] || { echo "no archive: run 'rt staticlib sm3rows' first" >&2; exit 1; }
-[ -f "$passage" ] || { echo "no archive: run 'rt staticlib passage_c' first" >&2; exit 1; }
+[ -f "$archive" ] || { echo "no archive: run 'sh tools/build.sh' first" >&2; exit 1; }
+[ -f "$passage" ] || { echo "no archive: run 'sh tools/build.sh' first" >&2; exit 1; }
 command -v valgrind > /dev/null || { apt-get update && apt-get install -y valgrind; } > /dev/null
 echo 'int main(void) { return 0; }' | gcc -x c - -lcrypto -lgcrypt -o /dev/null 2> /dev/null ||
     { apt-get update && apt-get install -y gcc libssl-dev libgcrypt20-dev; } > /dev/null

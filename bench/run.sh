@@ -4,16 +4,15 @@
 # Arguments: [--runs N] [--without FEATURE]; the feature, as intel-bmi2, is one of the processor's that libgcrypt leaves
 # aside.
 #
-# SM3ROWS_LIB and PASSAGE_LIB name the archives; without them, they are those that `rt staticlib sm3rows` and
-# `rt staticlib passage_c` write. ROWS_PROGRAM names the program `rows`; without it, it is target/bin/rows, and where that
-# is missing the program is left out.
+# SM3ROWS_LIB and PASSAGE_LIB name the archives; without them, they are those that `sh tools/build.sh` writes. ROWS_PROGRAM
+# names the program `rows`; without it, it is target/bin/rows, and where that is missing the program is left out.
 set -eu
 
 root=$(cd "$(dirname "$0")/.." && pwd)
 SM3ROWS_LIB=${SM3ROWS_LIB:-$root/target/staticlib/libsm3rows.a}
 PASSAGE_LIB=${PASSAGE_LIB:-$root/target/staticlib/libpassage_c.a}
-[ -f "$SM3ROWS_LIB" ] || { echo "no archive: run 'rt staticlib sm3rows' first" >&2; exit 1; }
-[ -f "$PASSAGE_LIB" ] || { echo "no archive: run 'rt staticlib passage_c' first" >&2; exit 1; }
+[ -f "$SM3ROWS_LIB" ] || { echo "no archive: run 'sh tools/build.sh' first" >&2; exit 1; }
+[ -f "$PASSAGE_LIB" ] || { echo "no archive: run 'sh tools/build.sh' first" >&2; exit 1; }
 export SM3ROWS_LIB PASSAGE_LIB
 export CARGO_TARGET_DIR="$root/target/judge"
 out=${BENCH_OUT:-$root/target/bench}

@@ -1,16 +1,15 @@
 #!/bin/sh
 # Measures the stack that the functions of both archives use, for the lines in include/ and docs/HOST.md, and the stack
 # under which the program `packed` accepts the longest record's claim.
-# SM3ROWS_LIB and PASSAGE_LIB name the archives; without them, they are those that `rt staticlib sm3rows` and
-# `rt staticlib passage_c` write. PACKED_PROGRAM names the program; without it, it is target/bin/packed, and where that is
-# missing the program is left out.
+# SM3ROWS_LIB and PASSAGE_LIB name the archives; without them, they are those that `sh tools/build.sh` writes.
+# PACKED_PROGRAM names the program; without it, it is target/bin/packed, and where that is missing the program is left out.
 set -eu
 
 root=$(cd "$(dirname "$0")/.." && pwd)
 archive=${SM3ROWS_LIB:-$root/target/staticlib/libsm3rows.a}
 passage=${PASSAGE_LIB:-$root/target/staticlib/libpassage_c.a}
-[ -f "$archive" ] || { echo "no archive: run 'rt staticlib sm3rows' first" >&2; exit 1; }
-[ -f "$passage" ] || { echo "no archive: run 'rt staticlib passage_c' first" >&2; exit 1; }
+[ -f "$archive" ] || { echo "no archive: run 'sh tools/build.sh' first" >&2; exit 1; }
+[ -f "$passage" ] || { echo "no archive: run 'sh tools/build.sh' first" >&2; exit 1; }
 
 mkdir -p "$root/target/bench"
 claim=$root/target/bench/claim

@@ -8,15 +8,13 @@
 #   tests/judge/run.sh --soak MINUTES [--seed N]
 #   tests/judge/run.sh --tests                   the judge's own tests and those of the comparison
 #
-# SM3ROWS_LIB and PASSAGE_LIB name the archives; without them, they are the ones that `rt staticlib sm3rows` and
-# `rt staticlib passage_c` write. ROWS_PROGRAM, STEPS_PROGRAM, PACKED_PROGRAM, AXLE_ROWS_PROGRAM and AXLE_STEPS_PROGRAM name
-# the programs; without them, they are the ones that `rt check rows steps packed axle_rows axle_steps` writes. All seven must
-# be there.
+# SM3ROWS_LIB and PASSAGE_LIB name the archives, ROWS_PROGRAM, STEPS_PROGRAM, PACKED_PROGRAM, AXLE_ROWS_PROGRAM and
+# AXLE_STEPS_PROGRAM the programs; without them, they are the ones that `sh tools/build.sh` writes. All seven must be there.
 set -eu
 
-# present FILE COMMAND: the file is there; the command would write it.
+# present FILE: the file is there.
 present() {
-    [ -f "$1" ] || { echo "no $1: run '$2' first" >&2; exit 1; }
+    [ -f "$1" ] || { echo "no $1: run 'sh tools/build.sh' first" >&2; exit 1; }
 }
 
 root=$(cd "$(dirname "$0")/../.." && pwd)
@@ -27,13 +25,9 @@ steps=${STEPS_PROGRAM:-$root/target/bin/steps}
 packed=${PACKED_PROGRAM:-$root/target/bin/packed}
 axle_rows=${AXLE_ROWS_PROGRAM:-$root/target/bin/axle_rows}
 axle_steps=${AXLE_STEPS_PROGRAM:-$root/target/bin/axle_steps}
-present "$SM3ROWS_LIB" "rt staticlib sm3rows"
-present "$PASSAGE_LIB" "rt staticlib passage_c"
-present "$rows" "rt check rows"
-present "$steps" "rt check steps"
-present "$packed" "rt check packed"
-present "$axle_rows" "rt check axle_rows"
-present "$axle_steps" "rt check axle_steps"
+for file in "$SM3ROWS_LIB" "$PASSAGE_LIB" "$rows" "$steps" "$packed" "$axle_rows" "$axle_steps"; do
+    present "$file"
+done
 export SM3ROWS_LIB PASSAGE_LIB
 export CARGO_TARGET_DIR="$root/target/judge"
 
