@@ -1,5 +1,6 @@
 /* A run of a program as a call: see program.h. What comes of failing reads and writes is in docs/DECISIONS.md. */
 
+#include <errno.h>
 #include <string.h>
 #include <sys/types.h>
 
@@ -37,6 +38,12 @@ ssize_t program_write(int fd, const void *from, size_t count)
     run.output_size += n;
     run.write_failed = n == 0 && count > 0;
     return run.write_failed && run.room % 3 != 0 ? -1 : (ssize_t)n;
+}
+
+/* Why a read or a write failed: for no reason after which it would be tried again. */
+int program_errno(void)
+{
+    return EIO;
 }
 
 void run_program(int (*program)(void), const uint8_t *data, size_t size)

@@ -1,8 +1,8 @@
 /* A run of a program as a call, for the harnesses of the programs.
  *
- * fuzz/run.sh links a program's object in with its `main`, `read` and `write` renamed, so that a run is a call and its
- * standard input and output are the functions of program.c. The first three bytes of an input are the manner: how the
- * reads and writes go, whole, in pieces, failing. The others are the standard input.
+ * fuzz/run.sh links a program's object in with its `main`, `read`, `write` and `rattle_errno` renamed, so that a run is a
+ * call and its standard input and output are the functions of program.c. The first three bytes of an input are the
+ * manner: how the reads and writes go, whole, in pieces, failing. The others are the standard input.
  *
  * The objects are not instrumented, so each harness has a mutator that makes inputs that are right or nearly so; what
  * the mutators share is here too. */

@@ -5,16 +5,16 @@
 #   passage the four functions of the passage product's archive, beside the row library;
 #   line    the line that the programs `rows` and `steps` read, and the shape of what they print;
 #   packed  the line and the bytes that the program `packed` reads, and what it prints.
-# SM3ROWS_LIB and PASSAGE_LIB name the archives; without them, they are those that `rt staticlib sm3rows` and
-# `rt staticlib passage_c` write. The programs are the objects that `rt check rows steps packed` leaves.
+# SM3ROWS_LIB and PASSAGE_LIB name the archives; without them, they are those that `sh tools/build.sh` writes. So are the
+# programs' objects, in target/obj.
 set -eu
 
 root=$(cd "$(dirname "$0")/.." && pwd)
 seconds=${1:-60}
 archive=${SM3ROWS_LIB:-$root/target/staticlib/libsm3rows.a}
 passage=${PASSAGE_LIB:-$root/target/staticlib/libpassage_c.a}
-[ -f "$archive" ] || { echo "no archive: run 'rt staticlib sm3rows' first" >&2; exit 1; }
-[ -f "$passage" ] || { echo "no archive: run 'rt staticlib passage_c' first" >&2; exit 1; }
+[ -f "$archive" ] || { echo "no archive: run 'sh tools/build.sh' first" >&2; exit 1; }
+[ -f "$passage" ] || { echo "no archive: run 'sh tools/build.sh' first" >&2; exit 1; }
 work=$root/target/fuzz
 mkdir -p "$work"
 
@@ -24,12 +24,13 @@ install() {
 command -v objcopy > /dev/null || install binutils
 command -v clang > /dev/null || install clang
 
-# A program's object whose main, read and write have other names, for the harness to call and to answer.
+# A program's object whose main, and what it calls of the system to read and write and to ask why that failed, have other
+# names, for the harness to call and to answer.
 for program in rows steps packed; do
     object=$root/target/obj/$program.o
-    [ -f "$object" ] || { echo "no program: run 'rt check $program' first" >&2; exit 1; }
+    [ -f "$object" ] || { echo "no program: run 'sh tools/build.sh' first" >&2; exit 1; }
     objcopy --redefine-sym "main=${program}_main" --redefine-sym read=program_read \
-        --redefine-sym write=program_write "$object" "$work/$program.o"
+        --redefine-sym write=program_write --redefine-sym rattle_errno=program_errno "$object" "$work/$program.o"
 done
 
 # build HARNESS OBJECTS..
