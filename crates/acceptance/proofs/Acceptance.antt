@@ -1,5 +1,6 @@
 -- When the check accepts. Its definition is a chain of tests, and an answer about the rows comes only past them all: each test
 -- that is passed is a condition that holds, and the rows' own answer decides the rest.
+use Rattle.std.specs.Prelude.{Err, Ok, Some, None, Option}
 use mathlib.Core.Bool.{and-eq-true_iff, true}
 use mathlib.Core.List.{List}
 use mathlib.Core.Logic.Iff
@@ -25,15 +26,11 @@ use Rattle.forms.proofs.exact.Runs.{Judged, and_given}
 use Rattle.forms.specs.Rows.{Satisfied}
 use Rattle.acceptance.specs.Check.{after_rows, circuit_check, same}
 use Rattle.refusal.proofs.Tests.{equal_iff, not_iff, past}
-use Rattle.refusal.specs.Refusals.{outcome_number, outcome_values}
+use Rattle.refusal.specs.Refusals.{outcome_number, outcome_values, Outcome, done}
 use Rattle.refusal.specs.declared.numbers.RowNumber.{RowNumber}
-use Rattle.refusal.specs.declared.outcome.Outcome.TheVariants.{Done, Refused}
-use Rattle.refusal.specs.declared.outcome.Outcome.{Outcome}
 use Rattle.refusal.specs.declared.outcome.Refusal.TheVariants.{DigestNot32, DigestWire, Unsatisfied, WireZero, WrongLength}
 use Rattle.satisfaction.proofs.Lowest.{lowest_all, lowest_failing_lem}
 use Rattle.satisfaction.specs.Lowest.{LowestFailing, lowest}
-use Rattle.satisfaction.specs.declared.rows_check.Verdict.TheVariants.{AllSatisfied, Fails}
-use Rattle.satisfaction.specs.declared.rows_check.Verdict.{Verdict}
 
 -- `same` says that the places agree
 pub same_iff : (n : ℕ) (f g : ℕ → ℕ) → (same n f g ≡ true) ↔ ((k : ℕ) → k < n → f k ≡ g k)
@@ -50,13 +47,13 @@ same_iff (suc n) f g = (
 )
 
 -- the verdict is known by the answer
-done : (v : Verdict) → after_rows v ≡ Done → v ≡ AllSatisfied
-done AllSatisfied e = refl
-done (Fails k) e = absurd (omega (arith, ap outcome_number e))
+done : (v : Option RowNumber) → after_rows v ≡ done → v ≡ None
+done None e = refl
+done (Some k) e = absurd (omega (arith, ap outcome_number e))
 
-fails : (v : Verdict) (k : RowNumber) → after_rows v ≡ Refused (Unsatisfied k) → v ≡ Fails k
-fails AllSatisfied k e = absurd (omega (arith, ap outcome_number e))
-fails (Fails j) k e = ap (λ o. Fails (record { 0 = get_or (outcome_values o) 0 0 })) e
+fails : (v : Option RowNumber) (k : RowNumber) → after_rows v ≡ Err (Unsatisfied k) → v ≡ Some k
+fails None k e = absurd (omega (arith, ap outcome_number e))
+fails (Some j) k e = ap (λ o. Some (record { 0 = get_or (outcome_values o) 0 0 })) e
 
 -- the tests before the rows are passed
 pub record Passed (C : Circuit) (d a : List ℕ) : Type 0 where
@@ -76,7 +73,7 @@ pub record Accepts (C : Circuit) (d a : List ℕ) : Type 0 where
   pub satisfied : (k : ℕ) → k < row_count C → Satisfied (entry a) (row_at C k)
 
 module _ (C : Circuit) (d a : List ℕ) where
-  abbrev rows_verdict : Verdict
+  abbrev rows_verdict : Option RowNumber
   rows_verdict = lowest (entry a) (row_at C) 0 (row_count C)
 
   -- an answer that is none of the refusals 5 to 8 and 20
@@ -85,11 +82,11 @@ module _ (C : Circuit) (d a : List ℕ) where
   unfolding circuit_check
   answer_of_rows z other not-20 =
       Iff.trans
-      (past _ (Refused DigestNot32) _ z (equal_iff (length d) 32) (other 5 (lit≤ tt) (lit≤ tt))
-      (past _ (Refused WrongLength) _ z (equal_iff (length a) (8 * wire_count C)) (other 6 (lit≤ tt) (lit≤ tt))
+      (past _ (Err DigestNot32) _ z (equal_iff (length d) 32) (other 5 (lit≤ tt) (lit≤ tt))
+      (past _ (Err WrongLength) _ z (equal_iff (length a) (8 * wire_count C)) (other 6 (lit≤ tt) (lit≤ tt))
       (Iff.trans (limit_past _ _ (wire_count C) a _ z (λ w e. not-20 (ap outcome_number e))) (and_given Iff.rfl (λ below.
-      past _ (Refused WireZero) _ z (equal_iff (entry a 0) 1) (other 7 (lit≤ tt) (lit≤ tt))
-      (past _ (Refused DigestWire) _ z (not_iff _ (same_iff 256 (λ k. entry a (1 + k)) (bit_of_bytes d))) (other 8 (lit≤ tt) (lit≤ tt))
+      past _ (Err WireZero) _ z (equal_iff (entry a 0) 1) (other 7 (lit≤ tt) (lit≤ tt))
+      (past _ (Err DigestWire) _ z (not_iff _ (same_iff 256 (λ k. entry a (1 + k)) (bit_of_bytes d))) (other 8 (lit≤ tt) (lit≤ tt))
       Iff.rfl)))))) (
         λ (digest, (length, (below, (one, (wires, rows))))). (
           record { digest-length = digest; assignment_length = length; below = below; one = one; digest-wires = wires },
@@ -98,9 +95,9 @@ module _ (C : Circuit) (d a : List ℕ) where
         λ (h, rows). (h.digest-length, (h.assignment_length, (h.below, (h.one, (h.digest-wires, rows))))),
       )
 
-  pub accepted_iff : (circuit_check C d a ≡ Done) ↔ Accepts C d a
+  pub accepted_iff : (circuit_check C d a ≡ done) ↔ Accepts C d a
   accepted_iff =
-      Iff.trans (answer_of_rows Done (λ m l h e. omega arith) (λ e. omega arith)) (
+      Iff.trans (answer_of_rows done (λ m l h e. omega arith) (λ e. omega arith)) (
         λ (h, rows).
             record {
               passed = h;
@@ -113,9 +110,9 @@ module _ (C : Circuit) (d a : List ℕ) where
       )
 
   -- the row that is named fails, and every row below it holds
-  pub unsatisfied_lowest : (k : RowNumber) → circuit_check C d a ≡ Refused (Unsatisfied k)
+  pub unsatisfied_lowest : (k : RowNumber) → circuit_check C d a ≡ Err (Unsatisfied k)
       → LowestFailing (entry a) (row_at C) 0 (row_count C) k.0
   unsatisfied_lowest k e =
       subst (λ m. LowestFailing (entry a) (row_at C) 0 m k.0) (zero-add (row_count C))
       (lowest_failing_lem (entry a) (row_at C) 0 (row_count C) k
-      (fails rows_verdict k ((answer_of_rows (Refused (Unsatisfied k)) (λ m l h e. omega arith) (λ e. omega arith)).0 e).1))
+      (fails rows_verdict k ((answer_of_rows (Err (Unsatisfied k)) (λ m l h e. omega arith) (λ e. omega arith)).0 e).1))

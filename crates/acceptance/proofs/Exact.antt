@@ -2,6 +2,7 @@
 -- witness has wires, which are bits, and a digest. Where the rows hold, the witness that is read off the wires is valid and the wires are its
 -- own; where the wires are a valid witness's, the rows hold. So an assignment is accepted against a digest exactly where some valid witness
 -- has that digest and, byte for byte, that assignment, and it is known by the wires that the witness is read off.
+use Rattle.std.specs.Prelude.{Ok}
 use mathlib.Core.List.{List, ◌++◌}
 use mathlib.Core.Logic.{◌↔◌}
 use mathlib.Core.Path.{◌≡◌, ◌∙◌, ap, subst, subst₂, sym}
@@ -20,9 +21,7 @@ use Rattle.encoding.proofs.ByteBits.{bytes_ext}
 use Rattle.encoding.specs.Bits.{bit_of_bytes}
 use Rattle.encoding.specs.Bytes.{Bytes}
 use Rattle.forms.proofs.exact.Runs.{Agree, Holds, Judged}
-use Rattle.refusal.specs.Refusals.{left}
-use Rattle.refusal.specs.declared.outcome.Outcome.TheVariants.{Done}
-use Rattle.refusal.specs.declared.outcome.Outcome.{Outcome}
+use Rattle.refusal.specs.Refusals.{left, Outcome, done}
 
 -- What the law asks of a circuit's layout: the wires and the digest of a witness, and the witness that is read off wires, of which it asks the
 -- n wires `inputs` alone.
@@ -102,21 +101,21 @@ module _ {X : Type 0} {C : Circuit} {Valid : X → Type 0} {wires : X → ℕ �
       ∙ sym (accepted_bytes h₂ b₂)
 
   -- A check that is the circuit's behind a condition of its own.
-  module _ {Asked : Type 0} (answer : List ℕ → List ℕ → Outcome) (iff : (d a : List ℕ) → (answer d a ≡ Done) ↔ (Asked × Accepts C d a))
+  module _ {Asked : Type 0} (answer : List ℕ → List ℕ → Outcome) (iff : (d a : List ℕ) → (answer d a ≡ done) ↔ (Asked × Accepts C d a))
       (asked : Asked) where
     -- accepted exactly where some valid witness has this digest and this assignment
-    pub exact : (d a : List ℕ) → Bytes d → Bytes a → ((answer d a ≡ Done) ↔ ((x : X) × Valid x × (digest x ≡ d) × (a ≡ assigned x)))
+    pub exact : (d a : List ℕ) → Bytes d → Bytes a → ((answer d a ≡ done) ↔ ((x : X) × Valid x × (digest x ≡ d) × (a ≡ assigned x)))
     exact d a digests bytes = (
       λ h.
           let accepts = ((iff d a).0 h).1 in
           (read (entry a), (found accepts).0, accepted_digest accepts digests, accepted_bytes accepts bytes),
-      λ (x, valid, same, whole). subst₂ (λ d a. answer d a ≡ Done) same (sym whole) ((iff (digest x) (assigned x)).1 (asked, witness_accepted x valid)),
+      λ (x, valid, same, whole). subst₂ (λ d a. answer d a ≡ done) same (sym whole) ((iff (digest x) (assigned x)).1 (asked, witness_accepted x valid)),
     )
 
     -- what a producer leaves of a valid witness is accepted against its digest
-    pub produced : (x : X) → Valid x → (out : List ℕ) (reply : Outcome) → reply ≡ Done
-        → answer (digest x) (take (8 * wire_count C) (left reply (assigned x ++ drop (8 * wire_count C) out) out)) ≡ Done
+    pub produced : (x : X) → Valid x → (out : List ℕ) (reply : Outcome) → reply ≡ done
+        → answer (digest x) (take (8 * wire_count C) (left reply (assigned x ++ drop (8 * wire_count C) out) out)) ≡ done
     produced x valid out reply done =
-        subst (λ reply. answer (digest x) (take (8 * wire_count C) (left reply (assigned x ++ drop (8 * wire_count C) out) out)) ≡ Done) (sym done)
-        (subst (λ a. answer (digest x) a ≡ Done) (sym (entries_front (wire_count C) (wires x) _))
+        subst (λ reply. answer (digest x) (take (8 * wire_count C) (left reply (assigned x ++ drop (8 * wire_count C) out) out)) ≡ done) (sym done)
+        (subst (λ a. answer (digest x) a ≡ done) (sym (entries_front (wire_count C) (wires x) _))
         ((iff (digest x) (assigned x)).1 (asked, witness_accepted x valid)))

@@ -10,9 +10,9 @@ use assignment::entry::read;
 use circuit::circuits::Circuit;
 use circuit::wire::wire_count;
 use encoding::read::bit_at;
-use refusal::numbers::WireNumber;
-use refusal::outcome::{Outcome, Refusal};
-use satisfaction::rows_check::{Verdict, lowest_unsatisfied};
+use refusal::numbers::{RowNumber, WireNumber};
+use refusal::outcome::Refusal;
+use satisfaction::rows_check::lowest_unsatisfied;
 
 // Whether each digest wire is its bit of the digest.
 fn digest_agrees(digest: &[u8], assignment: &[u8]) -> bool
@@ -27,37 +27,34 @@ fn digest_agrees(digest: &[u8], assignment: &[u8]) -> bool
     true
 }
 
-// The answer once the rows are judged.
-fn after_rows(verdict: Verdict) -> Outcome
+// The answer once the rows are judged: the lowest that is not satisfied is named.
+fn after_rows(verdict: Option<RowNumber>) -> Result<(), Refusal>
     ensures { result ≡ after_rows verdict }
 {
     match verdict {
-        Verdict::AllSatisfied => Outcome::Done,
-        Verdict::Fails(row) => Outcome::Refused(Refusal::Unsatisfied(row)),
+        None => Ok(()),
+        Some(row) => Err(Refusal::Unsatisfied(row)),
     }
 }
 
 // The check of an assignment of a circuit against a digest.
-pub fn check_circuit(circuit: Circuit, digest: &[u8], assignment: &[u8]) -> Outcome
+pub fn check_circuit(circuit: Circuit, digest: &[u8], assignment: &[u8]) -> Result<(), Refusal>
     requires { Allowed circuit }
     ensures { result ≡ circuit_check circuit digest.now assignment.now }
 {
     if digest.len() != 32 {
-        return Outcome::Refused(Refusal::DigestNot32);
+        return Err(Refusal::DigestNot32);
     }
     let wires = wire_count(circuit);
     if assignment.len() as u64 != 8 * wires {
-        return Outcome::Refused(Refusal::WrongLength);
+        return Err(Refusal::WrongLength);
     }
-    let below = below_prime(assignment, wires);
-    if let Outcome::Refused(refusal) = below {
-        return Outcome::Refused(refusal);
-    }
+    below_prime(assignment, wires)?;
     if read(assignment, WireNumber(0)) != 1 {
-        return Outcome::Refused(Refusal::WireZero);
+        return Err(Refusal::WireZero);
     }
     if !digest_agrees(digest, assignment) {
-        return Outcome::Refused(Refusal::DigestWire);
+        return Err(Refusal::DigestWire);
     }
     after_rows(lowest_unsatisfied(circuit, assignment))
 }

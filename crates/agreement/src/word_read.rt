@@ -1,7 +1,6 @@
 // Words read off the wires of an assignment, where those are bits.
-ghost use Rattle.std.specs.Prelude.{◌≡◌, ◌+◌, ◌*◌, ◌<◌, ◌≤◌, true, length};
+ghost use Rattle.std.specs.Prelude.{◌≡◌, ◌+◌, ◌*◌, ◌<◌, ◌≤◌, true, length, Some};
 ghost use Rattle.agreement.specs.Agrees.{Bits, BitsOf, BitsOfState, BitsOfWords};
-ghost use Rattle.agreement.specs.declared.word_read.StateRead.TheVariants.{Words};
 ghost use Rattle.sm3.specs.declared.state.State.{State};
 
 use assignment::entry::read;
@@ -15,15 +14,6 @@ pub struct Standing {
     pub number: u64,
     // All of them put together by `or`, so that it is above 1 where one of them is.
     pub seen: u64,
-}
-
-// What 256 wires are.
-#[derive(Clone, Copy)]
-pub enum StateRead {
-    // The bits of these words.
-    Words(State),
-    // Not all are bits.
-    NotBits,
 }
 
 // The number that the 32 entries from w on write if they are bits.
@@ -69,16 +59,16 @@ pub fn read_words(assignment: &[u8], w: WireNumber, words: &mut [u32], n: usize)
     true
 }
 
-// The words A to H on the 256 wires from w on.
-pub fn read_state(assignment: &[u8], w: WireNumber) -> StateRead
+// The words A to H on the 256 wires from w on, if all of them are bits.
+pub fn read_state(assignment: &[u8], w: WireNumber) -> Option<State>
     requires { 8 * (w.0 + 256) ≤ length assignment.now }
-    ensures { (s : State) → result ≡ Words s → BitsOfState w.0 s assignment.now }
+    ensures { (s : State) → result ≡ Some s → BitsOfState w.0 s assignment.now }
 {
     let mut x = [0u32; 8];
     if !read_words(assignment, w, &mut x, 8) {
-        return StateRead::NotBits;
+        return None;
     }
-    StateRead::Words(State {
+    Some(State {
         a: x[0],
         b: x[1],
         c: x[2],

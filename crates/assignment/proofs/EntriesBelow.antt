@@ -1,5 +1,7 @@
 -- Entries below a limit. They are asked from wire 0 on, so where an entry is below the limit those after it decide; and where all of
 -- them put together by `or` are below it, each of them is.
+use Rattle.refusal.specs.Refusals.{Outcome, done}
+use Rattle.std.specs.Prelude.{Err, Ok, Some, None, Option}
 use Rattle.std.proofs.Common.{◌≡◌, ℕ, ◌+◌, ◌-◌, ◌*◌, ◌<◌, ◌≤◌, ◌↔◌, List, length, sym, ◌∙◌, subst, arith, lit<, below_none, below_more, ltb-true, le-ltb, lt-ltb}
 use mathlib.Core.Logic.{by_cases}
 use native.Mathlib.Decide.{dec_lt}
@@ -8,14 +10,10 @@ use Rattle.assignment.proofs.Entries.{entry_past}
 use Rattle.assignment.specs.Assignment.{entry}
 use Rattle.assignment.specs.BelowPrime.{below_prime_answer, limit_answer}
 use Rattle.assignment.specs.Bounded.{AtMost, BelowPrime, lowest_not_below}
-use Rattle.assignment.specs.declared.bounded.Lowest.TheVariants.{AllBelow, NotBelow}
-use Rattle.assignment.specs.declared.bounded.Lowest.{Lowest}
 use Rattle.encoding.proofs.Lowest as failing
 use Rattle.field.specs.Field.{p}
 use Rattle.refusal.proofs.Tests.{Before, refused_done}
 use Rattle.refusal.specs.declared.numbers.WireNumber.{WireNumber}
-use Rattle.refusal.specs.declared.outcome.Outcome.TheVariants.{Done, Refused}
-use Rattle.refusal.specs.declared.outcome.Outcome.{Outcome}
 use Rattle.refusal.specs.declared.outcome.Refusal.TheVariants.{EntryNotBelowPrime}
 use Rattle.refusal.specs.declared.outcome.Refusal.{Refusal}
 
@@ -35,7 +33,7 @@ one_seen {w} {i} {seen} {n} {bytes} e h =
 
 -- The lowest entry that is not below the limit.
 
-found_some : (v : WireNumber) → NotBelow v ≡ AllBelow → ⊥
+found_some : (v : WireNumber) → Some v ≡ None → ⊥
 found_some v e =
     let z : ◌≡◌ {A = ℕ} 0 1 = cc in
     omega arith
@@ -43,66 +41,66 @@ found_some v e =
 module _ (limit : ℕ) (bytes : List ℕ) where
   -- Of the wires from k on and below n.
   module _ (n k : ℕ) where
-    pub asked_end : n ≤ k → lowest_not_below limit bytes k (n - k) ≡ AllBelow
+    pub asked_end : n ≤ k → lowest_not_below limit bytes k (n - k) ≡ None
     unfolding lowest_not_below
-    asked_end = failing.lowest_end _ _ AllBelow n k
+    asked_end = failing.lowest_end _ _ None n k
 
     -- wire k
     module _ (l : k < n) where
       pub asked_below : entry bytes k < limit → lowest_not_below limit bytes k (n - k) ≡ lowest_not_below limit bytes (k + 1) (n - (k + 1))
       unfolding lowest_not_below
-      asked_below h = failing.lowest-holds _ _ AllBelow n k l (lt-ltb (entry bytes k) limit h)
+      asked_below h = failing.lowest-holds _ _ None n k l (lt-ltb (entry bytes k) limit h)
 
-      pub asked_not_below : limit ≤ entry bytes k → lowest_not_below limit bytes k (n - k) ≡ NotBelow (record { 0 = k })
+      pub asked_not_below : limit ≤ entry bytes k → lowest_not_below limit bytes k (n - k) ≡ Some (record { 0 = k })
       unfolding lowest_not_below
-      asked_not_below h = failing.lowest_fails _ _ AllBelow n k l (le-ltb (entry bytes k) limit h)
+      asked_not_below h = failing.lowest_fails _ _ None n k l (le-ltb (entry bytes k) limit h)
 
   -- where the m entries from k on put together are below the limit
-  pub seen_below : (k m x : ℕ) → x < limit → AtMost k m x bytes → lowest_not_below limit bytes k m ≡ AllBelow
+  pub seen_below : (k m x : ℕ) → x < limit → AtMost k m x bytes → lowest_not_below limit bytes k m ≡ None
   unfolding lowest_not_below
   seen_below k m x few seen =
-      failing.lowest-none _ _ AllBelow k m
+      failing.lowest-none _ _ None k m
       (λ w l h.
       let place : k + (w - k) ≡ w = omega arith in
       lt-ltb (entry bytes w) limit (omega (arith, subst (λ v. entry bytes v ≤ x) place (seen.each (w - k) (omega arith)))))
 
   -- Of the wires from k on and below n the first m are asked: where these are below the limit the others decide, else it is among them.
   module _ (n k m : ℕ) (l : k + m ≤ n) where
-    pub run_below : lowest_not_below limit bytes k m ≡ AllBelow
+    pub run_below : lowest_not_below limit bytes k m ≡ None
         → lowest_not_below limit bytes k (n - k) ≡ lowest_not_below limit bytes (k + m) (n - (k + m))
     unfolding lowest_not_below
-    run_below e = failing.lowest-past _ _ AllBelow n k m l (failing.none_all _ _ AllBelow (λ w. found_some _) k m e)
+    run_below e = failing.lowest-past _ _ None n k m l (failing.none_all _ _ None (λ w. found_some _) k m e)
 
-    pub run_found : (v : WireNumber) → lowest_not_below limit bytes k m ≡ NotBelow v → lowest_not_below limit bytes k (n - k) ≡ NotBelow v
+    pub run_found : (v : WireNumber) → lowest_not_below limit bytes k m ≡ Some v → lowest_not_below limit bytes k (n - k) ≡ Some v
     unfolding lowest_not_below
     run_found v e =
-        failing.lowest-parted _ _ AllBelow n k m l
-        ∙ failing.lowest_among _ _ AllBelow (λ w. found_some _) k m _ (λ none. found_some v (sym e ∙ none))
+        failing.lowest-parted _ _ None n k m l
+        ∙ failing.lowest_among _ _ None (λ w. found_some _) k m _ (λ none. found_some v (sym e ∙ none))
         ∙ e
 
 -- An answer that refuses the lowest entry that is not below a limit.
 
 -- what is answered where the lowest such entry is known
-abbrev pub refused_by : (WireNumber → Refusal) → Lowest → Outcome
-refused_by refusal AllBelow = Done
-refused_by refusal (NotBelow w) = Refused (refusal w)
+abbrev pub refused_by : (WireNumber → Refusal) → Option WireNumber → Outcome
+refused_by refusal None = done
+refused_by refusal (Some w) = Err (refusal w)
 
 module _ (refusal : WireNumber → Refusal) (limit n : ℕ) (a : List ℕ) where
-  pub refused_by-lowest : refused_by refusal (lowest_not_below limit a 0 n) ≡ limit_answer refusal limit n a Done
+  pub refused_by-lowest : refused_by refusal (lowest_not_below limit a 0 n) ≡ limit_answer refusal limit n a done
   unfolding lowest_not_below limit_answer
-  refused_by-lowest = failing.lowest-map _ _ (refused_by refusal) AllBelow 0 n
+  refused_by-lowest = failing.lowest-map _ _ (refused_by refusal) None 0 n
 
   -- the test stands before any further answer
   pub limit_before : Before (limit_answer refusal limit n a)
   unfolding limit_answer
   limit_before =
       record {
-        stands = λ r next e. failing.lowest_among _ _ Done (λ w. refused_done _) 0 n next (λ d. refused_done r (sym e ∙ d)) ∙ e;
-        passed = λ next e. failing.lowest-none _ _ next 0 n (failing.none_all _ _ Done (λ w. refused_done _) 0 n e);
+        stands = λ r next e. failing.lowest_among _ _ done (λ w. refused_done _) 0 n next (λ d. refused_done r (sym e ∙ d)) ∙ e;
+        passed = λ next e. failing.lowest-none _ _ next 0 n (failing.none_all _ _ done (λ w. refused_done _) 0 n e);
       }
 
   -- an answer that is not this refusal comes from what follows, where all entries are below the limit
-  pub limit_past : (next z : Outcome) → ((w : ℕ) → Refused (refusal (record { 0 = w })) ≡ z → ⊥)
+  pub limit_past : (next z : Outcome) → ((w : ℕ) → Err (refusal (record { 0 = w })) ≡ z → ⊥)
       → (limit_answer refusal limit n a next ≡ z) ↔ (((w : ℕ) → w < n → entry a w < limit) × (next ≡ z))
   unfolding limit_answer
   limit_past next z other = (
@@ -113,7 +111,7 @@ module _ (refusal : WireNumber → Refusal) (limit n : ℕ) (a : List ℕ) where
   )
 
   -- what holds of the refusal of each of the n wires and of what follows holds of the answer
-  pub limit_holds : (P : Outcome → Type 0) (next : Outcome) → ((w : ℕ) → w < n → P (Refused (refusal (record { 0 = w })))) → P next
+  pub limit_holds : (P : Outcome → Type 0) (next : Outcome) → ((w : ℕ) → w < n → P (Err (refusal (record { 0 = w })))) → P next
       → P (limit_answer refusal limit n a next)
   unfolding limit_answer
   limit_holds P next each last = failing.by_lowest _ _ P next 0 n (λ _. last) (λ w low. each w (omega (arith, low.below)))
@@ -128,5 +126,5 @@ below_all n a long below =
     }
 
 -- .. where the test is passed
-pub below_done : (n : ℕ) (a : List ℕ) → length a ≡ 8 * n → below_prime_answer n a Done ≡ Done → BelowPrime a
-below_done n a long e = below_all n a long ((limit_past EntryNotBelowPrime p n a Done Done (λ w. refused_done _)).0 e).0
+pub below_done : (n : ℕ) (a : List ℕ) → length a ≡ 8 * n → below_prime_answer n a done ≡ done → BelowPrime a
+below_done n a long e = below_all n a long ((limit_past EntryNotBelowPrime p n a done done (λ w. refused_done _)).0 e).0

@@ -1,44 +1,35 @@
 // The test that every entry of an assignment is below a limit, and below the prime.
+ghost use Rattle.refusal.specs.Refusals.{done};
 ghost use Rattle.std.specs.Prelude.{◌≡◌, ◌-◌, ◌*◌, ◌≤◌, length};
 ghost use Rattle.assignment.specs.BelowPrime.{below_prime_answer};
 ghost use Rattle.assignment.specs.Bounded.{lowest_not_below};
-ghost use Rattle.refusal.specs.declared.outcome.Outcome.TheVariants.{Done};
 
 use crate::entry::{read, seen_from};
 use field::P;
 use refusal::numbers::WireNumber;
-use refusal::outcome::{Outcome, Refusal};
-
-// What a limit makes of entries.
-#[derive(Clone, Copy)]
-pub enum Lowest {
-    // Every entry is below it.
-    AllBelow,
-    // The lowest wire whose entry is not.
-    NotBelow(WireNumber),
-}
+use refusal::outcome::Refusal;
 
 // The lowest of the entries from `from` on and below `to` that is not below the limit, if there is one: they are asked in their order.
-fn lowest_asked(assignment: &[u8], from: WireNumber, to: WireNumber, limit: u64) -> Lowest
+fn lowest_asked(assignment: &[u8], from: WireNumber, to: WireNumber, limit: u64) -> Option<WireNumber>
     requires { (from.0 ≤ to.0) × (8 * to.0 ≤ length assignment.now) }
     ensures { result ≡ lowest_not_below limit assignment.now from.0 (to.0 - from.0) }
 {
     let end = to.0;
     for w in from.0..end {
         if limit <= read(assignment, WireNumber(w)) {
-            return Lowest::NotBelow(WireNumber(w));
+            return Some(WireNumber(w));
         }
     }
-    Lowest::AllBelow
+    None
 }
 
 // The same. Where all of them put together are below the limit none has to be asked.
-fn lowest_in_run(assignment: &[u8], from: WireNumber, to: WireNumber, limit: u64) -> Lowest
+fn lowest_in_run(assignment: &[u8], from: WireNumber, to: WireNumber, limit: u64) -> Option<WireNumber>
     requires { (from.0 ≤ to.0) × (8 * to.0 ≤ length assignment.now) }
     ensures { result ≡ lowest_not_below limit assignment.now from.0 (to.0 - from.0) }
 {
     if seen_from(assignment, from, to.0 - from.0) < limit {
-        return Lowest::AllBelow;
+        return None;
     }
     lowest_asked(assignment, from, to, limit)
 }
@@ -47,7 +38,7 @@ fn lowest_in_run(assignment: &[u8], from: WireNumber, to: WireNumber, limit: u64
 const RUN: u64 = 256;
 
 // The lowest of the first n entries that is not below the limit, if there is one, run by run.
-pub fn lowest_not_below(assignment: &[u8], n: u64, limit: u64) -> Lowest
+pub fn lowest_not_below(assignment: &[u8], n: u64, limit: u64) -> Option<WireNumber>
     requires { 8 * n ≤ length assignment.now }
     ensures { result ≡ lowest_not_below limit assignment.now 0 n }
 {
@@ -59,20 +50,20 @@ pub fn lowest_not_below(assignment: &[u8], n: u64, limit: u64) -> Lowest
             WireNumber(RUN * (j + 1)),
             limit,
         );
-        if let Lowest::NotBelow(wire) = lowest {
-            return Lowest::NotBelow(wire);
+        if let Some(wire) = lowest {
+            return Some(wire);
         }
     }
     lowest_in_run(assignment, WireNumber(RUN * runs), WireNumber(n), limit)
 }
 
 // Refusal 20 for the lowest of the first n entries that is p or more, if there is one.
-pub fn below_prime(assignment: &[u8], n: u64) -> Outcome
+pub fn below_prime(assignment: &[u8], n: u64) -> Result<(), Refusal>
     requires { 8 * n ≤ length assignment.now }
-    ensures { result ≡ below_prime_answer n assignment.now Done }
+    ensures { result ≡ below_prime_answer n assignment.now done }
 {
     match lowest_not_below(assignment, n, P) {
-        Lowest::AllBelow => Outcome::Done,
-        Lowest::NotBelow(wire) => Outcome::Refused(Refusal::EntryNotBelowPrime(wire)),
+        None => Ok(()),
+        Some(wire) => Err(Refusal::EntryNotBelowPrime(wire)),
     }
 }

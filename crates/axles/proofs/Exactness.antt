@@ -1,6 +1,8 @@
 -- Acceptance between two bounds is exact, an instance of the law of exact acceptance. The witness is a record of 63 bytes in the band: its wires are
 -- the layout's, its digest is its SM3, and it is read off the record wires and packed into bytes. The rows hold exactly where the record that
 -- is read off lies in the band and the wires are its own.
+use Rattle.refusal.specs.Refusals.{done}
+use Rattle.std.specs.Prelude.{Ok}
 use mathlib.Core.Bool.{true}
 use mathlib.Core.List.{List}
 use mathlib.Core.Logic.Iff
@@ -43,7 +45,6 @@ use Rattle.record.proofs.DigestBits.{digest_bytes_lem, length-digest}
 use Rattle.record.proofs.exact.Record.{packed_off, packed_record, read_off_lem, read_off}
 use Rattle.record.proofs.exact.WireBits.{wire_lt}
 use Rattle.record.specs.Layout.{record_wire, wire_of}
-use Rattle.refusal.specs.declared.outcome.Outcome.TheVariants.{Done}
 use Rattle.sm3.specs.Message.{digest_bytes}
 
 module _ (lower upper : ℕ) where
@@ -90,7 +91,7 @@ module _ (lower upper : ℕ) where
 
 -- a record in the band is not refused where there is room
 not_refused : (lower upper : ℕ) (r : List ℕ) (room : ℕ) → bounds_in_range lower upper ≡ true → IsRecord axle_bits r → InBand lower upper r
-    → 8 * wire_count (Axles lower upper) ≤ room → axles_produce_answer lower upper r room ≡ Done
+    → 8 * wire_count (Axles lower upper) ≤ room → axles_produce_answer lower upper r room ≡ done
 unfolding axles_produce_answer
 not_refused lower upper r room bounds is band fits =
     handed_passes axle_bits r partner_limit _ partner_allows is

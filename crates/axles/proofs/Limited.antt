@@ -1,4 +1,5 @@
 -- A record of 504 bits has two blocks, which the partner's limit allows.
+use Rattle.std.specs.Prelude.{Err}
 use mathlib.Core.Path.{ap}
 use native.Mathlib.Omega.{arith}
 use borrow.Author.Tests.{ne_eqb}
@@ -6,7 +7,6 @@ use Rattle.axles.specs.Limited.{AxlesLimited}
 use Rattle.axles.specs.Produce.{axles_produce_answer}
 use Rattle.axles.specs.RowAnswer.{axles_row_answer}
 use Rattle.circuit.specs.Axles.{axle_bits}
-use Rattle.circuit.specs.declared.given_row.RowAnswer.TheVariants as row
 use Rattle.limits.proofs.limit.Decided.{within_limit}
 use Rattle.limits.proofs.limit.Tests.{length_passes}
 use Rattle.limits.specs.Blocks.{blocks}
@@ -23,7 +23,7 @@ axles-limited =
     record {
       row =
           λ lower upper k room.
-          ap (λ t. limited row.Refused (λ x. x) t (axles_row_answer lower upper k room)) (within_limit partner_limit axle_bits partner_allows);
+          ap (λ t. limited Err (λ x. x) t (axles_row_answer lower upper k room)) (within_limit partner_limit axle_bits partner_allows);
       check = λ lower upper d a. length_passes partner_limit axle_bits _ partner_allows;
       produce = λ lower upper r room wrong. rw (ne_eqb _ _ wrong);
     }

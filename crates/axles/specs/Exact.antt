@@ -3,7 +3,8 @@
 -- .. is accepted against the digest it reached"; request 6: "Agreement of wires, and acceptance of a stranger's work, become equality of
 -- bytes"). Everything is said of raw bytes, as they are lent, and of the definitions that the contracts of `check`, `produce`, `row` and
 -- `digest` cite.
-use Rattle.std.specs.Prelude.{true, List, ◌↔◌, ◌≡◌, ℕ, ◌*◌, ◌<◌, ◌≤◌, length, take}
+use Rattle.refusal.specs.Refusals.{done}
+use Rattle.std.specs.Prelude.{true, List, ◌↔◌, ◌≡◌, ℕ, ◌*◌, ◌<◌, ◌≤◌, length, take, Ok}
 use Rattle.assignment.specs.Assignment.{wire_bytes}
 use Rattle.axles.specs.Band.{InBand}
 use Rattle.axles.specs.Check.{axles_check_answer}
@@ -18,12 +19,11 @@ use Rattle.encoding.specs.Bytes.{Bytes}
 use Rattle.forms.specs.Shape.{Shaped}
 use Rattle.limits.specs.Handed.{IsRecord}
 use Rattle.record.specs.Layout.{record_wire}
-use Rattle.refusal.specs.declared.outcome.Outcome.TheVariants.{Done}
 use Rattle.sm3.specs.Message.{digest_bytes}
 
 -- accepted between two bounds against a digest: the check of these returns no refusal
 abbrev pub IsAcceptedBetween : ℕ → ℕ → List ℕ → List ℕ → Type 0
-IsAcceptedBetween lower upper d a = axles_check_answer lower upper d a ≡ Done
+IsAcceptedBetween lower upper d a = axles_check_answer lower upper d a ≡ done
 
 pub record AxlesExact : Type 0 where
   -- "Wires are again unique, between assignments accepted under the same bounds": those that have the same bytes on the record wires are

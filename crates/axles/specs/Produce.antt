@@ -1,5 +1,5 @@
 -- The answer of `produce` and the bytes that it leaves (document 02, requests 5 and 8).
-use Rattle.std.specs.Prelude.{cond, not, List, ◌++◌, ℕ, ◌*◌, ltb, drop}
+use Rattle.std.specs.Prelude.{cond, not, List, ◌++◌, ℕ, ◌*◌, ltb, drop, Err, Ok}
 use Rattle.assignment.specs.Assignment.{entry_bytes}
 use Rattle.axles.specs.Band.{in_band}
 use Rattle.axles.specs.Layout.{axle_wire_of}
@@ -9,9 +9,7 @@ use Rattle.circuit.specs.declared.circuits.Circuit.TheVariants.{Axles}
 use Rattle.encoding.specs.Bits.{bit_of_bytes}
 use Rattle.limits.specs.Handed.{handed_answer}
 use Rattle.limits.specs.Limit.{partner_limit}
-use Rattle.refusal.specs.Refusals.{left}
-use Rattle.refusal.specs.declared.outcome.Outcome.TheVariants.{Done, Refused}
-use Rattle.refusal.specs.declared.outcome.Outcome.{Outcome}
+use Rattle.refusal.specs.Refusals.{left, Outcome, done}
 use Rattle.refusal.specs.declared.outcome.Refusal.TheVariants.{BoundsOutOfRange, BufferTooShort, NotInBand}
 
 -- the whole assignment of a record of 504 bits between two bounds
@@ -24,11 +22,11 @@ unfoldable pub axles_produce_answer : ℕ → ℕ → List ℕ → ℕ → Outco
 axles_produce_answer lower upper bytes room =
     handed_answer partner_limit axle_bits bytes
     -- "18, a bound outside 2 to 99 or the lower above the upper"
-    (cond (not (bounds_in_range lower upper)) (Refused BoundsOutOfRange)
+    (cond (not (bounds_in_range lower upper)) (Err BoundsOutOfRange)
     -- "19, to the producer, a record that does not meet this, after 18"
-    (cond (not (in_band lower upper bytes)) (Refused NotInBand)
+    (cond (not (in_band lower upper bytes)) (Err NotInBand)
     -- "4. The buffer to be written is shorter than .. 8 × wires for an assignment"
-    (cond (ltb room (8 * wire_count (Axles lower upper))) (Refused BufferTooShort) Done)))
+    (cond (ltb room (8 * wire_count (Axles lower upper))) (Err BufferTooShort) done)))
 
 -- what is left in the buffer: the assignment and the bytes past it, which "keep their value"
 abbrev pub axles_produce_left : Outcome → ℕ → ℕ → List ℕ → List ℕ → List ℕ

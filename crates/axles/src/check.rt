@@ -5,14 +5,14 @@ ghost use Rattle.axles.specs.Check.{axles_check_answer};
 use acceptance::circuit_check::check_circuit;
 use circuit::axles::bounds_in_range;
 use circuit::circuits::Circuit;
-use refusal::outcome::{Outcome, Refusal};
+use refusal::outcome::Refusal;
 
 // The check of an assignment of a record with axles between two bounds against a digest.
-pub fn check(lower: u64, upper: u64, digest: &[u8], assignment: &[u8]) -> Outcome
+pub fn check(lower: u64, upper: u64, digest: &[u8], assignment: &[u8]) -> Result<(), Refusal>
     ensures { result ≡ axles_check_answer lower upper digest.now assignment.now }
 {
     if !bounds_in_range(lower, upper) {
-        return Outcome::Refused(Refusal::BoundsOutOfRange);
+        return Err(Refusal::BoundsOutOfRange);
     }
     check_circuit(Circuit::Axles { lower, upper }, digest, assignment)
 }

@@ -20,7 +20,7 @@ use limits::handed::ask_record;
 use limits::limit::PARTNER_LIMIT;
 use record::produce::put_assignment;
 use refusal::numbers::WireNumber;
-use refusal::outcome::{Outcome, Refusal};
+use refusal::outcome::Refusal;
 
 // A number on `width` wires from w on, the highest bit first.
 fn put_number(out: &mut [u8], w: WireNumber, width: u64, x: u64)
@@ -56,24 +56,21 @@ fn put_axles(out: &mut [u8], lower: u64, upper: u64, bytes: &[u8])
 }
 
 // The assignment of a record of 63 bytes between two bounds, into the first bytes of `out`.
-pub fn produce(lower: u64, upper: u64, bytes: &[u8], out: &mut [u8]) -> Outcome
+pub fn produce(lower: u64, upper: u64, bytes: &[u8], out: &mut [u8]) -> Result<(), Refusal>
     ensures value { result ≡ axles_produce_answer lower upper bytes.now (length out.old) }
     ensures out_after { out.new ≡ axles_produce_left result lower upper bytes.now out.old }
 {
-    let answer = ask_record(PARTNER_LIMIT, AXLE_BITS, bytes);
-    if let Outcome::Refused(refusal) = answer {
-        return Outcome::Refused(refusal);
-    }
+    ask_record(PARTNER_LIMIT, AXLE_BITS, bytes)?;
     if !bounds_in_range(lower, upper) {
-        return Outcome::Refused(Refusal::BoundsOutOfRange);
+        return Err(Refusal::BoundsOutOfRange);
     }
     if !in_band(lower, upper, bytes) {
-        return Outcome::Refused(Refusal::NotInBand);
+        return Err(Refusal::NotInBand);
     }
     let wires = wire_count(Circuit::Axles { lower, upper });
     if (out.len() as u64) < 8 * wires {
-        return Outcome::Refused(Refusal::BufferTooShort);
+        return Err(Refusal::BufferTooShort);
     }
     put_axles(out, lower, upper, bytes);
-    Outcome::Done
+    Ok(())
 }

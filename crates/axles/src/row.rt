@@ -4,17 +4,18 @@ ghost use Rattle.axles.specs.RowAnswer.{axles_row_answer, axles_row_left};
 
 use circuit::axles::bounds_in_range;
 use circuit::circuits::Circuit;
-use circuit::given_row::{RowAnswer, give_row};
+use circuit::given_row::give_row;
+use forms::terms::Counts;
 use refusal::numbers::RowNumber;
 use refusal::outcome::Refusal;
 
 // The row of a number for two bounds, into the front of `out`: the terms of A, then B, then C.
-pub fn row(lower: u64, upper: u64, row: RowNumber, out: &mut [u8]) -> RowAnswer
+pub fn row(lower: u64, upper: u64, row: RowNumber, out: &mut [u8]) -> Result<Counts, Refusal>
     ensures value { result ≡ axles_row_answer lower upper row.0 (length out.old) }
     ensures out_after { out.new ≡ axles_row_left result lower upper row.0 out.old }
 {
     if !bounds_in_range(lower, upper) {
-        return RowAnswer::Refused(Refusal::BoundsOutOfRange);
+        return Err(Refusal::BoundsOutOfRange);
     }
     give_row(Circuit::Axles { lower, upper }, row, out)
 }

@@ -1,5 +1,5 @@
 -- What the program `packed` answers and prints (document 02, request 1; request 2 for the length l in bits).
-use Rattle.std.specs.Prelude.{List, [], ◌≡◌, ℕ, ◌≤◌, take}
+use Rattle.std.specs.Prelude.{List, [], ◌≡◌, ℕ, ◌≤◌, take, Err, Ok}
 use Rattle.claim.specs.Line.{digest_at, packed_from, parse_of}
 use Rattle.claim.specs.declared.answer.Answer.TheVariants.{BadLine, Checked}
 use Rattle.claim.specs.declared.answer.Answer.{Answer}
@@ -7,7 +7,6 @@ use Rattle.claim.specs.declared.line.Parsed.TheVariants.{Claim, Malformed}
 use Rattle.claim.specs.declared.line.Parsed.{Parsed}
 use Rattle.packing.specs.PackedCheck.{packed_check_answer}
 use Rattle.refusal.specs.Refusals.{outcome_number, outcome_values, refusal_number}
-use Rattle.refusal.specs.declared.outcome.Outcome.TheVariants.{Done, Refused}
 use Rattle.text.specs.Refused.{refused}
 use Rattle.text.specs.Text.{ascii}
 
@@ -31,8 +30,8 @@ answer_values (Checked o) = outcome_values o
 -- "prints `accepted` or the refusal as `rows` does"
 abbrev pub printed : Answer → List ℕ
 printed BadLine = refused 1
-printed (Checked Done) = ascii "accepted\n"
-printed (Checked (Refused r)) = refused (refusal_number r)
+printed (Checked (Ok _)) = ascii "accepted\n"
+printed (Checked (Err r)) = refused (refusal_number r)
 
 -- what the program prints for the bytes s of standard input
 unfoldable pub prints : List ℕ → List ℕ

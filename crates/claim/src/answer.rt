@@ -10,7 +10,7 @@ use circuit::wire::wire_count;
 use limits::limit::OUR_LIMIT;
 use packing::unpack::unpack;
 use record::check::check;
-use refusal::outcome::{Outcome, number_of};
+use refusal::outcome::Refusal;
 use text::hex::put_bytes_of_hex;
 use text::literal::put_through;
 use text::refused::put_refusal;
@@ -25,14 +25,11 @@ pub enum Answer {
 }
 
 // The check of packed bytes for records of so many bits against a digest. The entries go into `room`.
-fn check_packed(bits: u64, digest: &[u8], packed: &[u8], room: &mut [u8]) -> Outcome
+fn check_packed(bits: u64, digest: &[u8], packed: &[u8], room: &mut [u8]) -> Result<(), Refusal>
     requires { length room.old ≡ 2887688 }
     ensures { result ≡ packed_check_answer bits digest.now packed.now }
 {
-    let answer = unpack(OUR_LIMIT, bits, packed, room);
-    if let Outcome::Refused(refusal) = answer {
-        return Outcome::Refused(refusal);
-    }
+    unpack(OUR_LIMIT, bits, packed, room)?;
     let end = (8 * wire_count(Circuit::Record { bits })) as usize;
     check(OUR_LIMIT, bits, digest, &room[..end])
 }
@@ -52,13 +49,13 @@ pub fn answer_to(input: &[u8], room: &mut [u8]) -> Answer
 }
 
 // `accepted`, or the refusal's number.
-fn put_outcome(out: &mut [u8], outcome: Outcome) -> usize
+fn put_outcome(out: &mut [u8], outcome: Result<(), Refusal>) -> usize
     requires { 29 ≤ length out.old }
     ensures { Put out.old 0 (printed (Answer.Checked outcome)) out.new result × (result ≤ 29) }
 {
     match outcome {
-        Outcome::Done => put_through(out, 0, b"accepted\n", 0, b'\n'),
-        Outcome::Refused(refusal) => put_refusal(out, number_of(refusal)),
+        Ok(()) => put_through(out, 0, b"accepted\n", 0, b'\n'),
+        Err(refusal) => put_refusal(out, refusal.number()),
     }
 }
 

@@ -1,6 +1,6 @@
 -- The worked figures that document 01 marks P, one table: what the definitions give, beside the paper's figure. Lengths are in
 -- bits, the unit that document 02's request 2 gives every figure. The definitions are the ones that the contracts cite.
-use Rattle.std.specs.Prelude.{ℕ, ◌+◌, ◌-◌, ◌*◌, ◌^◌, List, [], ◌∷◌, ◌++◌, pos, slice_index_or}
+use Rattle.std.specs.Prelude.{ℕ, ◌+◌, ◌-◌, ◌*◌, ◌^◌, List, [], ◌∷◌, ◌++◌, pos, slice_index_or, Ok}
 use Rattle.assignment.specs.BelowPrime.{below_prime_answer}
 use Rattle.circuit.specs.declared.circuits.Circuit.TheVariants.{Axles, Record}
 use Rattle.limits.specs.Blocks.{blocks}
@@ -17,9 +17,7 @@ use Rattle.field.specs.Field.{p, residue}
 use Rattle.forms.specs.Coefficients.{signed}
 use Rattle.listing.specs.Request.{request_number, request_of}
 use Rattle.listing.specs.declared.request.Front.TheVariants.{Length}
-use Rattle.refusal.specs.Refusals.{outcome_number, outcome_values}
-use Rattle.refusal.specs.declared.outcome.Outcome.TheVariants.{Done}
-use Rattle.refusal.specs.declared.outcome.Outcome.{Outcome}
+use Rattle.refusal.specs.Refusals.{outcome_number, outcome_values, Outcome, done}
 use Rattle.sm3.specs.Digest.{digest_answer}
 use Rattle.sm3.specs.Sm3.{P0, P1, rotated_constant}
 use Rattle.text.specs.Text.{ascii}
@@ -34,7 +32,7 @@ c is s = record { computed = c; stated = s }
 
 -- what the test of refusal 20, which every check and packing share, makes of three entries, of which the last is v
 abbrev pub of_three : ℕ → Outcome
-of_three v = below_prime_answer 3 (least_first 8 1 ++ least_first 8 (p - 1) ++ least_first 8 v) Done
+of_three v = below_prime_answer 3 (least_first 8 1 ++ least_first 8 (p - 1) ++ least_first 8 v) done
 
 -- the number that the 8 bytes of the coefficient of a residue k write, the least first, without regard to its sign
 abbrev pub coefficient_bytes : ℕ → ℕ

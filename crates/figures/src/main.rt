@@ -20,14 +20,14 @@ ghost use Rattle.std.specs.Prelude.{◌+◌, ◌≤◌};
 ghost use Rattle.circuit.specs.GivenRow.{row_bytes};
 ghost use Rattle.limits.specs.Blocks.{most_bits};
 
-use circuit::given_row::{ROW_BYTES, RowAnswer};
+use circuit::given_row::ROW_BYTES;
 use console::print;
 use encoding::packed::packed_length;
 use encoding::read::{eight_bytes, four_bytes};
+use forms::terms::Counts;
 use limits::limit::OUR_LIMIT;
 use record::row::row;
 use refusal::numbers::RowNumber;
-use refusal::outcome::number_of;
 use sample::counted;
 use text::decimal::put_decimal;
 
@@ -93,11 +93,11 @@ fn print_term(rt: &HostRuntime, bytes: &[u8; ROW_BYTES], at: usize)
 }
 
 // The counts of a row and its first three terms.
-fn print_row(rt: &HostRuntime, a: u64, b: u64, c: u64, bytes: &[u8; ROW_BYTES]) {
+fn print_row(rt: &HostRuntime, n: Counts, bytes: &[u8; ROW_BYTES]) {
     print_number(rt, 0);
-    print_number(rt, a);
-    print_number(rt, b);
-    print_number(rt, c);
+    print_number(rt, n.a as u64);
+    print_number(rt, n.b as u64);
+    print_number(rt, n.c as u64);
     print_term(rt, bytes, 0);
     print_term(rt, bytes, 12);
     print_term(rt, bytes, 24);
@@ -108,8 +108,8 @@ fn show_row(rt: &HostRuntime, bits: u64, number: u64) {
     let mut out = [0u8; ROW_BYTES];
     let answer = row(OUR_LIMIT, bits, RowNumber(number), &mut out);
     match answer {
-        RowAnswer::Given { a, b, c } => print_row(rt, a, b, c, &out),
-        RowAnswer::Refused(refusal) => print_number(rt, number_of(refusal)),
+        Ok(n) => print_row(rt, n, &out),
+        Err(refusal) => print_number(rt, refusal.number()),
     }
     print(rt, b"\n");
 }

@@ -1,6 +1,7 @@
 -- What a limit changes in an answer. There are four cases: a limit outside its range is 21 and a length outside its own is 2, whatever follows;
 -- where the length needs more blocks than the limit, the answer is 22 past the tests before it; else it is what follows, which does not see
 -- the limit. Sixteen blocks are enough for every length in range, so that with sixteen the third case does not come up.
+use Rattle.std.specs.Prelude.{Err, Ok, Result}
 use mathlib.Core.Bool.{Bool, cond, false, true≢false}
 use mathlib.Core.List.{List}
 use mathlib.Core.Logic.{by_cases}
@@ -16,9 +17,7 @@ use Rattle.limits.specs.Limit.{Allows, IsLimit, allowance, length_answer, limite
 use Rattle.limits.specs.Limited.{Limited, OursStand}
 use Rattle.limits.specs.declared.limit.Allowance.{Allowance}
 use Rattle.refusal.proofs.Small.{tested}
-use Rattle.refusal.specs.Refusals.{outcome_number, refusal_number}
-use Rattle.refusal.specs.declared.outcome.Outcome.TheVariants.{Done, Refused}
-use Rattle.refusal.specs.declared.outcome.Outcome.{Outcome}
+use Rattle.refusal.specs.Refusals.{outcome_number, refusal_number, Outcome, done}
 use Rattle.refusal.specs.declared.outcome.Refusal.TheVariants.{BlocksAboveLimit, BufferTooShort, LengthOutOfRange, LimitOutOfRange}
 use Rattle.refusal.specs.declared.outcome.Refusal.{Refusal}
 
@@ -42,7 +41,7 @@ other_number k no-2 no-21 no-22 =
     unequal {j} e differ = true≢false (sym (eq-eqb k j e) ∙ differ)
 
 -- the test of a buffer
-pub room_other : (t : Bool) → Other (outcome_number (cond t (Refused BufferTooShort) Done))
+pub room_other : (t : Bool) → Other (outcome_number (cond t (Err BufferTooShort) done))
 room_other t = tested (λ o. Other (outcome_number o)) t (other_number 4 refl refl refl) (λ _. other_number 0 refl refl refl)
 
 -- no tests at all
@@ -65,9 +64,9 @@ ours_stand A refused asked n next =
     let range : n ≤ most_bits = omega (arith, fits) in
     ap (λ t. limited refused asked t next) (within_limit our_limit n (ours_allow n range)) ∙ rw (le-ltb most_bits n range))
 
-pub ours_length : (n : ℕ) (next : Outcome) → length_answer our_limit n next ≡ cond (ltb most_bits n) (Refused LengthOutOfRange) next
+pub ours_length : (n : ℕ) (next : Outcome) → length_answer our_limit n next ≡ cond (ltb most_bits n) (Err LengthOutOfRange) next
 unfolding length_answer
-ours_length n next = ours_stand Outcome Refused (λ answer. answer) n next
+ours_length n next = ours_stand Outcome Err (λ answer. answer) n next
 
 -- Of an operation whose answers have these numbers, that asks so, and that else answers `next` and leaves `leaves` of its answer.
 module _ {A : Type 0} (refused : Refusal → A) (number : A → ℕ) (named : (r : Refusal) → number (refused r) ≡ refusal_number r)
@@ -75,7 +74,7 @@ module _ {A : Type 0} (refused : Refusal → A) (number : A → ℕ) (named : (r
   abbrev answer : ℕ → A
   answer l = limited refused asked (allowance l n) next
 
-  abbrev given : Allowance → A
+  abbrev given : Result Allowance Refusal → A
   given t = limited refused asked t next
 
   at_outside : (l : ℕ) → (IsLimit l → ⊥) → answer l ≡ refused LimitOutOfRange

@@ -1,12 +1,10 @@
 -- The caller's limit in blocks (document 02, request 8: "Each call that takes a record or a record's length names its caller's limit in
 -- blocks").
-use Rattle.std.specs.Prelude.{cond, ℕ, ◌≤◌, ltb}
+use Rattle.refusal.specs.Refusals.{Outcome, done}
+use Rattle.std.specs.Prelude.{cond, ℕ, ◌≤◌, ltb, Err, Ok, Result}
 use Rattle.limits.specs.Blocks.{blocks, most_bits}
 use Rattle.limits.specs.declared.limit.Allowance.TheVariants.{Beyond, Within}
-use Rattle.limits.specs.declared.limit.Allowance.TheVariants as allow
 use Rattle.limits.specs.declared.limit.Allowance.{Allowance}
-use Rattle.refusal.specs.declared.outcome.Outcome.TheVariants.{Refused}
-use Rattle.refusal.specs.declared.outcome.Outcome.{Outcome}
 use Rattle.refusal.specs.declared.outcome.Refusal.TheVariants.{BlocksAboveLimit, LengthOutOfRange, LimitOutOfRange}
 use Rattle.refusal.specs.declared.outcome.Refusal.{Refusal}
 
@@ -19,26 +17,31 @@ abbrev pub partner_limit : ℕ
 partner_limit = 2
 
 -- what a limit of l blocks says of a length of n bits
-unfoldable pub allowance : ℕ → ℕ → Allowance
+unfoldable pub allowance : ℕ → ℕ → Result Allowance Refusal
 allowance l n =
     -- "21, a limit outside 1 to 16, before 2"
-    cond (ltb l 1) (allow.Refused LimitOutOfRange)
-    (cond (ltb our_limit l) (allow.Refused LimitOutOfRange)
+    cond (ltb l 1) (Err LimitOutOfRange)
+    (cond (ltb our_limit l) (Err LimitOutOfRange)
     -- "2. The record length is above" 8,127
-    (cond (ltb most_bits n) (allow.Refused LengthOutOfRange)
+    (cond (ltb most_bits n) (Err LengthOutOfRange)
     -- "22, a length that needs more blocks than the limit"
-    (cond (ltb l (blocks n)) Beyond Within)))
+    (cond (ltb l (blocks n)) (Ok Beyond) (Ok Within))))
+
+-- "22, a length that needs more blocks than the limit"
+abbrev pub blocks_answer : Allowance → Outcome
+blocks_answer Within = done
+blocks_answer Beyond = Err BlocksAboveLimit
 
 -- the answer of an operation, of whatever kind it is: after 21 and 2 comes `asked`, what is asked of record bytes, then 22, "directly after 14",
 -- and then the answer `next`
-abbrev pub limited : {A : Type 0} → (Refusal → A) → (A → A) → Allowance → A → A
-limited refused asked (allow.Refused r) next = refused r
-limited refused asked Beyond next = asked (refused BlocksAboveLimit)
-limited refused asked Within next = asked next
+abbrev pub limited : {A : Type 0} → (Refusal → A) → (A → A) → Result Allowance Refusal → A → A
+limited refused asked (Err r) next = refused r
+limited refused asked (Ok Beyond) next = asked (refused BlocksAboveLimit)
+limited refused asked (Ok Within) next = asked next
 
 -- .. without record bytes
 unfoldable pub length_answer : ℕ → ℕ → Outcome → Outcome
-length_answer l n next = limited Refused (λ answer. answer) (allowance l n) next
+length_answer l n next = limited Err (λ answer. answer) (allowance l n) next
 
 -- "the named limit, itself from 1 to 16"
 abbrev pub IsLimit : ℕ → Type 0

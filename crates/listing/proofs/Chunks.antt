@@ -1,5 +1,6 @@
 -- A buffer is filled row by row. How many of all rows fit is how many are in it and how many of the others fit behind them; of
 -- the others none fit once the buffer is full, or once there are none.
+use Rattle.refusal.specs.Refusals.{done}
 use mathlib.Core.Bool.{Bool, cond, false, true}
 use mathlib.Core.List.{List}
 use mathlib.Core.Path.{◌≡◌, ◌∙◌, ap, ap₂, refl, sym}

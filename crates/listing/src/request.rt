@@ -13,7 +13,7 @@ use circuit::circuits::Circuit;
 use circuit::place::row_count;
 use limits::limit::{OUR_LIMIT, ask_length};
 use refusal::numbers::RowNumber;
-use refusal::outcome::{Outcome, Refusal, number_of};
+use refusal::outcome::Refusal;
 
 // What stands at the front of a line, before the first row and how many.
 #[derive(Clone, Copy)]
@@ -66,10 +66,7 @@ fn record_request(line: &[u8]) -> Request
     else {
         return Request::BadLine;
     };
-    let allowed = ask_length(OUR_LIMIT, leading);
-    if let Outcome::Refused(refusal) = allowed {
-        return Request::Refused(refusal);
-    }
+    ask_length(OUR_LIMIT, leading)?;
     within(Circuit::Record { bits: leading }, first, many)
 }
 
@@ -113,6 +110,6 @@ pub fn refusal_number(request: Request) -> u64
             many: _,
         } => 0,
         Request::BadLine => 1,
-        Request::Refused(refusal) => number_of(refusal),
+        Request::Refused(refusal) => refusal.number(),
     }
 }

@@ -1,5 +1,6 @@
 -- The answers of packing, unpacking and the check of packed bytes, test by test. They are done past all their tests, each of which is a
 -- condition that holds; and unpacking refuses what the check of packed bytes refuses before document 01's check.
+use Rattle.std.specs.Prelude.{Err, Ok}
 use mathlib.Core.Bool.{not}
 use mathlib.Core.List.{List}
 use mathlib.Core.Logic.Iff
@@ -32,19 +33,17 @@ use Rattle.packing.specs.Unpack.{packed_answer, unpack_answer, unpack_asked, unp
 use Rattle.record.specs.Check.{check_answer}
 use Rattle.refusal.proofs.Small.{tested}
 use Rattle.refusal.proofs.Tests.{Before, equal_iff, no_test, one_test, past}
-use Rattle.refusal.specs.Refusals.{outcome_number}
-use Rattle.refusal.specs.declared.outcome.Outcome.TheVariants.{Done, Refused}
-use Rattle.refusal.specs.declared.outcome.Outcome.{Outcome}
+use Rattle.refusal.specs.Refusals.{outcome_number, Outcome, done}
 use Rattle.refusal.specs.declared.outcome.Refusal.TheVariants.{BufferTooShort, EntryNotBelowPrime, EntryNotBit, LengthOutOfRange, SpareBit, WrongLength, WrongPackedLength}
 use Rattle.refusal.specs.declared.outcome.Refusal.{Refusal}
 
 -- the packed bytes of so many wires have their length, and no spare bit is set
 packed_done : (wires : ℕ) (p : List ℕ) (next : Outcome)
-    → (packed_answer wires p next ≡ Done) ↔ ((length p ≡ packed_length wires) × ((spare_bits wires p ≡ 0) × (next ≡ Done)))
+    → (packed_answer wires p next ≡ done) ↔ ((length p ≡ packed_length wires) × ((spare_bits wires p ≡ 0) × (next ≡ done)))
 unfolding packed_answer
 packed_done wires p next =
-    past _ (Refused WrongPackedLength) _ Done (equal_iff (length p) (packed_length wires)) (λ e. omega arith)
-    (past _ (Refused SpareBit) _ Done (equal_iff (spare_bits wires p) 0) (λ e. omega arith) Iff.rfl)
+    past _ (Err WrongPackedLength) _ done (equal_iff (length p) (packed_length wires)) (λ e. omega arith)
+    (past _ (Err SpareBit) _ done (equal_iff (spare_bits wires p) 0) (λ e. omega arith) Iff.rfl)
 
 -- what is asked of them stands before any further answer
 asked-first : (wires : ℕ) (p : List ℕ) → Before (packed_answer wires p)
@@ -55,16 +54,16 @@ asked-first wires p =
 
 -- What holds of all answers that packing or unpacking n wires could give holds of the answer.
 module _ (P : Outcome → Type 0) (n : ℕ) where
-  pub pack-holds : (a : List ℕ) (room : ℕ) → P (Refused BufferTooShort) → P (Refused WrongLength)
-      → ((w : ℕ) → w < n → P (Refused (EntryNotBelowPrime (record { 0 = w })))) → ((w : ℕ) → w < n → P (Refused (EntryNotBit (record { 0 = w }))))
-      → P Done → P (pack_asked n a room)
+  pub pack-holds : (a : List ℕ) (room : ℕ) → P (Err BufferTooShort) → P (Err WrongLength)
+      → ((w : ℕ) → w < n → P (Err (EntryNotBelowPrime (record { 0 = w })))) → ((w : ℕ) → w < n → P (Err (EntryNotBit (record { 0 = w }))))
+      → P done → P (pack_asked n a room)
   pack-holds a room short long below bits done =
       tested P (ltb room (packed_length n)) short
       (λ _.
       tested P (not (eqb (length a) (8 * n))) long
       (λ _. limit_holds _ _ n a P _ below (limit_holds _ _ n a P _ bits done)))
 
-  pub unpack-holds : (p : List ℕ) (room : ℕ) → P (Refused BufferTooShort) → P (Refused WrongPackedLength) → P (Refused SpareBit) → P Done
+  pub unpack-holds : (p : List ℕ) (room : ℕ) → P (Err BufferTooShort) → P (Err WrongPackedLength) → P (Err SpareBit) → P done
       → P (unpack_asked n p room)
   unfolding packed_answer
   unpack-holds p room short long spare done =
@@ -73,7 +72,7 @@ module _ (P : Outcome → Type 0) (n : ℕ) where
       tested P (not (eqb (length p) (packed_length n))) long
       (λ _. tested P (not (eqb (spare_bits n p) 0)) spare (λ _. done)))
 
-done_other : Other (outcome_number Done)
+done_other : Other (outcome_number done)
 done_other = other_number 0 refl refl refl
 
 -- For records of n bits, with a limit of l blocks.
@@ -82,31 +81,31 @@ module _ (l n : ℕ) where
   wires = wire_count (Record n)
 
   pub pack_done : (a : List ℕ) (room : ℕ)
-      → (pack_answer l n a room ≡ Done)
+      → (pack_answer l n a room ≡ done)
       ↔ (Allows l n × ((packed_length wires ≤ room) × ((length a ≡ 8 * wires) × ((w : ℕ) → w < wires → entry a w < 2))))
   unfolding pack_answer
   pack_done a room =
-      past-length l n _ Done done_other
-      (past _ (Refused BufferTooShort) _ Done (ltb-false room (packed_length wires), le-ltb room (packed_length wires)) (λ e. omega arith)
-      (past _ (Refused WrongLength) _ Done (equal_iff (length a) (8 * wires)) (λ e. omega arith)
+      past-length l n _ done done_other
+      (past _ (Err BufferTooShort) _ done (ltb-false room (packed_length wires), le-ltb room (packed_length wires)) (λ e. omega arith)
+      (past _ (Err WrongLength) _ done (equal_iff (length a) (8 * wires)) (λ e. omega arith)
       (asked_done wires a)))
 
   pub unpack_done : (p : List ℕ) (room : ℕ)
-      → (unpack_answer l n p room ≡ Done)
-      ↔ (Allows l n × ((8 * wires ≤ room) × ((length p ≡ packed_length wires) × ((spare_bits wires p ≡ 0) × (Done ≡ Done)))))
+      → (unpack_answer l n p room ≡ done)
+      ↔ (Allows l n × ((8 * wires ≤ room) × ((length p ≡ packed_length wires) × ((spare_bits wires p ≡ 0) × (done ≡ done)))))
   unfolding unpack_answer
   unpack_done p room =
-      past-length l n _ Done done_other
-      (past _ (Refused BufferTooShort) _ Done (ltb-false room (8 * wires), le-ltb room (8 * wires)) (λ e. omega arith)
-      (packed_done wires p Done))
+      past-length l n _ done done_other
+      (past _ (Err BufferTooShort) _ done (ltb-false room (8 * wires), le-ltb room (8 * wires)) (λ e. omega arith)
+      (packed_done wires p done))
 
   -- what is then left at the front of the buffer
-  pub packs_done : (a out : List ℕ) → pack_answer l n a (length out) ≡ Done → packs l n a out ≡ packed_bytes wires (entry a)
+  pub packs_done : (a out : List ℕ) → pack_answer l n a (length out) ≡ done → packs l n a out ≡ packed_bytes wires (entry a)
   packs_done a out e =
       ap (λ r. take (packed_length wires) (pack_left r n a out)) e
       ∙ take_at (packed_bytes wires (entry a)) (drop (packed_length wires) out) (packed_length wires) (length-packed wires (entry a))
 
-  pub unpacks_done : (p out : List ℕ) → unpack_answer l n p (length out) ≡ Done → unpacks l n p out ≡ unpacked_bytes wires p
+  pub unpacks_done : (p out : List ℕ) → unpack_answer l n p (length out) ≡ done → unpacks l n p out ≡ unpacked_bytes wires p
   unfolding unpacked_bytes
   unpacks_done p out e = ap (λ r. take (8 * wires) (unpack_left r n p out)) e ∙ entries_front wires _ _
 
@@ -116,17 +115,17 @@ module _ (n : ℕ) where
   our_wires = wire_count (Record n)
 
   pub check_done : (d p : List ℕ)
-      → (packed_check_answer n d p ≡ Done)
+      → (packed_check_answer n d p ≡ done)
       ↔ (Allows our_limit n
       × ((length p ≡ packed_length our_wires)
-      × ((spare_bits our_wires p ≡ 0) × (check_answer our_limit n d (unpacked_bytes our_wires p) ≡ Done))))
+      × ((spare_bits our_wires p ≡ 0) × (check_answer our_limit n d (unpacked_bytes our_wires p) ≡ done))))
   unfolding packed_check_answer
-  check_done d p = past-length our_limit n _ Done done_other (packed_done our_wires p _)
+  check_done d p = past-length our_limit n _ done done_other (packed_done our_wires p _)
 
   -- The check of packed bytes by way of unpacking them into a buffer that is long enough.
   module _ (d p : List ℕ) (room : ℕ) (fits : n ≤ most_bits → 8 * our_wires ≤ room) where
     -- a refusal of unpacking is the answer
-    pub check-refused : (r : Refusal) → unpack_answer our_limit n p room ≡ Refused r → packed_check_answer n d p ≡ Refused r
+    pub check-refused : (r : Refusal) → unpack_answer our_limit n p room ≡ Err r → packed_check_answer n d p ≡ Err r
     unfolding unpack_answer packed_check_answer
     check-refused r e =
         ours_length n _
@@ -138,19 +137,19 @@ module _ (n : ℕ) where
         (simp (le-ltb most_bits n range, le-ltb room (8 * our_wires) (fits range)) at (sym (ours_length n _) ∙ e))))
 
     -- else it is that of document 01's check
-    pub check_unpacked : unpack_answer our_limit n p room ≡ Done → packed_check_answer n d p ≡ check_answer our_limit n d (unpacked_bytes our_wires p)
+    pub check_unpacked : unpack_answer our_limit n p room ≡ done → packed_check_answer n d p ≡ check_answer our_limit n d (unpacked_bytes our_wires p)
     unfolding packed_check_answer
     check_unpacked e =
         let passed = (unpack_done our_limit n p room).0 e in
-        length_passes our_limit n _ passed.0 ∙ (asked-first our_wires p).passed _ ((packed_done our_wires p Done).1 passed.1.1)
+        length_passes our_limit n _ passed.0 ∙ (asked-first our_wires p).passed _ ((packed_done our_wires p done).1 passed.1.1)
 
   -- a wrong length is refused whatever the digest and the bytes are
   pub check-length : (d p : List ℕ) → n ≤ most_bits → (length p ≡ packed_length our_wires → ⊥)
-      → packed_check_answer n d p ≡ Refused WrongPackedLength
+      → packed_check_answer n d p ≡ Err WrongPackedLength
   unfolding packed_check_answer packed_answer
   check-length d p range wrong = ours_length n _ ∙ simp (le-ltb most_bits n range, ne_eqb _ _ wrong)
 
   -- .. but for a length of records that is out of range
-  pub check_range : (d p : List ℕ) → most_bits < n → packed_check_answer n d p ≡ Refused LengthOutOfRange
+  pub check_range : (d p : List ℕ) → most_bits < n → packed_check_answer n d p ≡ Err LengthOutOfRange
   unfolding packed_check_answer
   check_range d p above = ours_length n _ ∙ simp (lt-ltb most_bits n above)

@@ -1,4 +1,5 @@
 -- What follows the tests of a limit and a length is none of their refusals.
+use Rattle.std.specs.Prelude.{Err}
 use mathlib.Core.Path.{refl}
 use lib.ListN.{length}
 use Rattle.circuit.specs.Wires.{wire_count}
@@ -9,9 +10,7 @@ use Rattle.packing.proofs.Answers.{pack-holds, unpack-holds}
 use Rattle.packing.specs.Limited.{PackingLimited}
 use Rattle.packing.specs.Pack.{pack_answer, pack_left}
 use Rattle.packing.specs.Unpack.{unpack_answer, unpack_left}
-use Rattle.refusal.specs.Refusals.{outcome_number}
-use Rattle.refusal.specs.declared.outcome.Outcome.TheVariants.{Refused}
-use Rattle.refusal.specs.declared.outcome.Outcome.{Outcome}
+use Rattle.refusal.specs.Refusals.{outcome_number, Outcome}
 
 abbrev Free : Outcome → Type 0
 Free o = Other (outcome_number o)
@@ -22,13 +21,13 @@ packing_limited =
     record {
       pack =
           λ n a out.
-          limited_operation Refused outcome_number (λ r. refl) n (λ x. x) (asks_nothing outcome_number) _
+          limited_operation Err outcome_number (λ r. refl) n (λ x. x) (asks_nothing outcome_number) _
           (pack-holds Free (wire_count (Record n)) a (length out) (other_number 4 refl refl refl) (other_number 6 refl refl refl)
           (λ w l. other_number 20 refl refl refl) (λ w l. other_number 10 refl refl refl) (other_number 0 refl refl refl))
           (λ answer. pack_left answer n a out);
       unpack =
           λ n p out.
-          limited_operation Refused outcome_number (λ r. refl) n (λ x. x) (asks_nothing outcome_number) _
+          limited_operation Err outcome_number (λ r. refl) n (λ x. x) (asks_nothing outcome_number) _
           (unpack-holds Free (wire_count (Record n)) p (length out) (other_number 4 refl refl refl) (other_number 11 refl refl refl)
           (other_number 12 refl refl refl) (other_number 0 refl refl refl))
           (λ answer. unpack_left answer n p out);

@@ -1,6 +1,8 @@
 -- Packed bytes are accepted exactly when they are the packed wires of a record with this digest. Their entries are the bits, so demand
 -- 3 gives the record and says that the bits are its wires; bytes with these bits and no spare bit set are the packed wires. The other
 -- way round, packed wires unpack to the record's assignment.
+use Rattle.refusal.specs.Refusals.{done}
+use Rattle.std.specs.Prelude.{Ok}
 use mathlib.Core.List.{List}
 use mathlib.Core.Logic.{◌↔◌}
 use mathlib.Core.Path.{◌≡◌, ◌∙◌, ap, sym}
@@ -29,7 +31,6 @@ use Rattle.record.proofs.exact.WireBits.{wire_lt}
 use Rattle.record.specs.Check.{check_answer}
 use Rattle.record.specs.Layout.{wire_of}
 use Rattle.record.specs.Produce.{assignment_of}
-use Rattle.refusal.specs.declared.outcome.Outcome.TheVariants.{Done}
 use Rattle.sm3.specs.Message.{digest_bytes}
 
 unpacked_bytes_lem : (wires : ℕ) (p : List ℕ) → Bytes (unpacked_bytes wires p)
@@ -50,11 +51,11 @@ module _ (n : ℕ) (d p : List ℕ) (range : n ≤ most_bits) (digest : Bytes d)
   abbrev u : List ℕ
   u = unpacked_bytes wires p
 
-  entries_exact : (check_answer our_limit n d u ≡ Done)
+  entries_exact : (check_answer our_limit n d u ≡ done)
       ↔ ((r : List ℕ) × IsRecord n r × (digest_bytes n r ≡ d) × (u ≡ assignment_of n (bit_of_bytes r)))
   entries_exact = demand3.exact our_limit n d u (ours_allow n range) digest (unpacked_bytes_lem wires p)
 
-  exact : (packed_check_answer n d p ≡ Done)
+  exact : (packed_check_answer n d p ≡ done)
       ↔ ((r : List ℕ) × IsRecord n r × (digest_bytes n r ≡ d) × (p ≡ packed_bytes wires (wires_of n r)))
   unfolding assignment_of
   exact = (

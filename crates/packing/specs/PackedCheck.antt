@@ -1,5 +1,6 @@
 -- The check of packed bytes against a digest, as the program `packed` answers it (document 02, requests 1 and 8).
-use Rattle.std.specs.Prelude.{List, ◌↔◌, ◌≡◌, ℕ, ◌≤◌}
+use Rattle.refusal.specs.Refusals.{Outcome, done}
+use Rattle.std.specs.Prelude.{List, ◌↔◌, ◌≡◌, ℕ, ◌≤◌, Ok}
 use Rattle.circuit.specs.Wires.{wire_count}
 use Rattle.circuit.specs.declared.circuits.Circuit.TheVariants.{Record}
 use Rattle.encoding.specs.Bits.{bit_of_bytes}
@@ -12,8 +13,6 @@ use Rattle.packing.specs.Packed.{unpacked_bytes}
 use Rattle.packing.specs.Unpack.{packed_answer}
 use Rattle.record.specs.Check.{check_answer}
 use Rattle.record.specs.Layout.{wire_of}
-use Rattle.refusal.specs.declared.outcome.Outcome.TheVariants.{Done}
-use Rattle.refusal.specs.declared.outcome.Outcome.{Outcome}
 use Rattle.sm3.specs.Message.{digest_bytes}
 
 -- for records of n bits, with our limit: 2, 11 and 12, and then the answer of document 01's check to the entries
@@ -26,6 +25,6 @@ packed_check_answer n digest packed =
 abbrev pub PackedExact : Type 0
 PackedExact =
     (n : ℕ) (d p : List ℕ) → n ≤ most_bits → Bytes d → Bytes p
-    → (packed_check_answer n d p ≡ Done)
+    → (packed_check_answer n d p ≡ done)
     ↔ ((r : List ℕ) × IsRecord n r × (digest_bytes n r ≡ d)
     × (p ≡ packed_bytes (wire_count (Record n)) (wire_of n (bit_of_bytes r))))

@@ -16,20 +16,20 @@ use encoding::packed::packed_length;
 use encoding::write::put_word;
 use limits::limit::ask_length;
 use refusal::numbers::WireNumber;
-use refusal::outcome::{Outcome, Refusal};
+use refusal::outcome::Refusal;
 
 // Refusal 20, or else 10, for the lowest of the first n entries that calls for it, if there is one. Bits are below the prime, so the
 // entries of an honest assignment are read through only once.
-fn entries_asked(assignment: &[u8], n: u64) -> Outcome
+fn entries_asked(assignment: &[u8], n: u64) -> Result<(), Refusal>
     requires { 8 * n ≤ length assignment.now }
     ensures { result ≡ below_prime_answer n assignment.now (bits_answer n assignment.now) }
 {
-    let Lowest::NotBelow(wire) = lowest_not_below(assignment, n, 2) else {
-        return Outcome::Done;
+    let Some(wire) = lowest_not_below(assignment, n, 2) else {
+        return Ok(());
     };
     match below_prime(assignment, n) {
-        Outcome::Done => Outcome::Refused(Refusal::EntryNotBit(wire)),
-        Outcome::Refused(refusal) => Outcome::Refused(refusal),
+        Ok(()) => Err(Refusal::EntryNotBit(wire)),
+        Err(refusal) => Err(refusal),
     }
 }
 
@@ -59,27 +59,21 @@ fn put_packed(assignment: &[u8], wires: u64, out: &mut [u8])
 }
 
 // An assignment for records of so many bits, packed into the front of `out`.
-pub fn pack(limit: u64, bits: u64, assignment: &[u8], out: &mut [u8]) -> Outcome
+pub fn pack(limit: u64, bits: u64, assignment: &[u8], out: &mut [u8]) -> Result<(), Refusal>
     ensures value { result ≡ pack_answer limit bits assignment.now (length out.old) }
     ensures out_after { out.new ≡ pack_left result bits assignment.now out.old }
 {
-    let allowed = ask_length(limit, bits);
-    if let Outcome::Refused(refusal) = allowed {
-        return Outcome::Refused(refusal);
-    }
+    ask_length(limit, bits)?;
     let wires = wire_count(Circuit::Record { bits });
     let room = packed_length(wires);
     let bytes = 8 * wires;
     if (out.len() as u64) < room {
-        return Outcome::Refused(Refusal::BufferTooShort);
+        return Err(Refusal::BufferTooShort);
     }
     if assignment.len() as u64 != bytes {
-        return Outcome::Refused(Refusal::WrongLength);
+        return Err(Refusal::WrongLength);
     }
-    let asked = entries_asked(assignment, wires);
-    if let Outcome::Refused(refusal) = asked {
-        return Outcome::Refused(refusal);
-    }
+    entries_asked(assignment, wires)?;
     put_packed(assignment, wires, out);
-    Outcome::Done
+    Ok(())
 }

@@ -11,7 +11,7 @@ use encoding::packed::{packed_length, spare_bits};
 use encoding::read::{bit_at, word_at};
 use limits::limit::ask_length;
 use refusal::numbers::WireNumber;
-use refusal::outcome::{Outcome, Refusal};
+use refusal::outcome::Refusal;
 
 // The first entries of packed bytes: in each turn a word of their first half and one of the second, since two places of memory
 // are written sooner than one.
@@ -28,25 +28,22 @@ fn put_entries(packed: &[u8], half: usize, out: &mut [u8])
 }
 
 // The entries of packed bytes for records of so many bits, into the front of `out`.
-pub fn unpack(limit: u64, bits: u64, packed: &[u8], out: &mut [u8]) -> Outcome
+pub fn unpack(limit: u64, bits: u64, packed: &[u8], out: &mut [u8]) -> Result<(), Refusal>
     ensures value { result ≡ unpack_answer limit bits packed.now (length out.old) }
     ensures out_after { out.new ≡ unpack_left result bits packed.now out.old }
 {
-    let allowed = ask_length(limit, bits);
-    if let Outcome::Refused(refusal) = allowed {
-        return Outcome::Refused(refusal);
-    }
+    ask_length(limit, bits)?;
     let wires = wire_count(Circuit::Record { bits });
     if (out.len() as u64) < 8 * wires {
-        return Outcome::Refused(Refusal::BufferTooShort);
+        return Err(Refusal::BufferTooShort);
     }
     if packed.len() as u64 != packed_length(wires) {
-        return Outcome::Refused(Refusal::WrongPackedLength);
+        return Err(Refusal::WrongPackedLength);
     }
     if spare_bits(wires, packed) != 0 {
-        return Outcome::Refused(Refusal::SpareBit);
+        return Err(Refusal::SpareBit);
     }
     put_entries(packed, (wires / 64) as usize, out);
     put_entry(out, WireNumber(wires - 1), bit_at(packed, wires - 1));
-    Outcome::Done
+    Ok(())
 }

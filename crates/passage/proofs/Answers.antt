@@ -1,5 +1,8 @@
 -- What the answer about a line's bytes says: 16 names the place at which the search for a wrong byte stops; where it goes through all 63
 -- places lane and axles decide.
+use Rattle.refusal.specs.declared.outcome.Refusal.{Refusal}
+use Rattle.refusal.specs.Refusals.{Outcome, done}
+use Rattle.std.specs.Prelude.{Err, Ok, Result}
 use mathlib.Core.Bool.{Bool, cond, false, true, true≢false, ◌||◌, and-eq-true_iff, not}
 use mathlib.Core.List.{List}
 use mathlib.Core.Logic.Iff
@@ -21,11 +24,7 @@ use Rattle.passage.specs.Read.{bytes_answer, line_answer, next, numbers_in, read
 use Rattle.passage.specs.Runs.{Digits, Run}
 use Rattle.passage.specs.declared.format.Kind.TheVariants.{Class, Comma, Digit}
 use Rattle.passage.specs.declared.numbers.Numbers.{Numbers}
-use Rattle.passage.specs.declared.read.Reading.TheVariants.{Given, Refused as NotRead}
-use Rattle.passage.specs.declared.read.Reading.{Reading}
 use Rattle.refusal.proofs.Tests.{equal_iff, past, refused_done}
-use Rattle.refusal.specs.declared.outcome.Outcome.TheVariants.{Done, Refused}
-use Rattle.refusal.specs.declared.outcome.Outcome.{Outcome}
 use Rattle.refusal.specs.declared.outcome.Refusal.TheVariants.{LaneOrAxlesTooLow, LineNot63, WrongByte}
 use Rattle.text.specs.Decimal.{is_digit}
 use Rattle.text.specs.Text.{comma}
@@ -37,10 +36,10 @@ AllAllowed s = failing.AllHold (allowed_at s) 0 line_length
 module _ (s : List ℕ) where
   -- the answer past 16
   abbrev PastBytes : Outcome
-  PastBytes = cond (eqb (number_in lane s) 0 || ltb (number_in axles s) 2) (Refused LaneOrAxlesTooLow) Done
+  PastBytes = cond (eqb (number_in lane s) 0 || ltb (number_in axles s) 2) (Err LaneOrAxlesTooLow) done
 
   abbrev wrong_at : ℕ → Outcome
-  wrong_at k = Refused (WrongByte (record { 0 = k }))
+  wrong_at k = Err (WrongByte (record { 0 = k }))
 
   pub bytes_wrong : (r : ℕ) → r < line_length → Stops (allowed_at s) 0 line_length r → bytes_answer s ≡ wrong_at r
   unfolding bytes_answer
@@ -55,14 +54,14 @@ module _ (s : List ℕ) where
     unfolding bytes_answer
     past_bytes = failing.lowest-none (allowed_at s) wrong_at PastBytes 0 line_length all
 
-    pub no_lane : number_in lane s ≡ 0 → bytes_answer s ≡ Refused LaneOrAxlesTooLow
+    pub no_lane : number_in lane s ≡ 0 → bytes_answer s ≡ Err LaneOrAxlesTooLow
     no_lane none = past_bytes ∙ simp (eq-eqb (number_in lane s) 0 none)
 
     module _ (some : number_in lane s ≡ 0 → ⊥) where
-      pub few_axles : number_in axles s < 2 → bytes_answer s ≡ Refused LaneOrAxlesTooLow
+      pub few_axles : number_in axles s < 2 → bytes_answer s ≡ Err LaneOrAxlesTooLow
       few_axles few = past_bytes ∙ simp (ne_eqb (number_in lane s) 0 some, lt-ltb (number_in axles s) 2 few)
 
-      pub bytes_right : 2 ≤ number_in axles s → bytes_answer s ≡ Done
+      pub bytes_right : 2 ≤ number_in axles s → bytes_answer s ≡ done
       bytes_right enough = past_bytes ∙ simp (ne_eqb (number_in lane s) 0 some, le-ltb (number_in axles s) 2 enough)
 
     -- the digits of the numbers
@@ -95,13 +94,13 @@ module _ (s : List ℕ) where
         eqb-true (get_or s k 0) comma (sym (ap (λ q. allows q (get_or s (k - 1) 0) (get_or s k 0)) kind) ∙ all k (omega arith) l)
 
   -- past 16 and 17
-  pub right_allowed : bytes_answer s ≡ Done → AllAllowed s
+  pub right_allowed : bytes_answer s ≡ done → AllAllowed s
   unfolding bytes_answer
   right_allowed =
-      failing.by_lowest (allowed_at s) wrong_at (λ x. x ≡ Done → AllAllowed s) PastBytes 0 line_length (λ all _. all)
+      failing.by_lowest (allowed_at s) wrong_at (λ x. x ≡ done → AllAllowed s) PastBytes 0 line_length (λ all _. all)
       (λ j low e. absurd (refused_done _ e))
 
-  module _ (e : bytes_answer s ≡ Done) where
+  module _ (e : bytes_answer s ≡ done) where
     low_tests : (eqb (number_in lane s) 0 ≡ false) × (ltb (number_in axles s) 2 ≡ false)
     low_tests = neither (eqb (number_in lane s) 0) (ltb (number_in axles s) 2) LaneOrAxlesTooLow (sym (past_bytes (right_allowed e)) ∙ e)
 
@@ -112,7 +111,7 @@ module _ (s : List ℕ) where
     right_axles = ltb-false (number_in axles s) 2 low_tests.1
 
   -- the numbers of a right line fit their digits
-  pub right_fit : bytes_answer s ≡ Done → Fit (numbers_in s)
+  pub right_fit : bytes_answer s ≡ done → Fit (numbers_in s)
   unfolding numbers_in
   right_fit e =
       let all = right_allowed e in (
@@ -127,28 +126,28 @@ module _ (s : List ℕ) where
   unfolding line_answer
   long_line e = simp (eq-eqb (length s) line_length e)
 
-  pub line_right : (line_answer s ≡ Done) ↔ ((length s ≡ line_length) × (bytes_answer s ≡ Done))
+  pub line_right : (line_answer s ≡ done) ↔ ((length s ≡ line_length) × (bytes_answer s ≡ done))
   unfolding line_answer
-  line_right = past (not (eqb (length s) line_length)) (Refused LineNot63) (bytes_answer s) Done (equal_iff (length s) line_length) (λ e. omega arith) Iff.rfl
+  line_right = past (not (eqb (length s) line_length)) (Err LineNot63) (bytes_answer s) done (equal_iff (length s) line_length) (λ e. omega arith) Iff.rfl
 
 -- What is read.
-abbrev is_given : Reading → Bool
-is_given (Given n) = true
-is_given (NotRead r) = false
+abbrev is_given : Result Numbers Refusal → Bool
+is_given (Ok n) = true
+is_given (Err r) = false
 
-abbrev numbers_or : Numbers → Reading → Numbers
-numbers_or none (Given n) = n
-numbers_or none (NotRead r) = none
+abbrev numbers_or : Numbers → Result Numbers Refusal → Numbers
+numbers_or none (Ok n) = n
+numbers_or none (Err r) = none
 
-given-next : (o : Outcome) (m n : Numbers) → next o NotRead (Given m) ≡ Given n → (o ≡ Done) × (m ≡ n)
-given-next Done m n e = (refl, ap (numbers_or m) e)
-given-next (Refused r) m n e = absurd (true≢false (sym (ap is_given e)))
+given-next : (o : Outcome) (m n : Numbers) → next o Err (Ok m) ≡ Ok n → (o ≡ done) × (m ≡ n)
+given-next (Ok _) m n e = (refl, ap (numbers_or m) e)
+given-next (Err r) m n e = absurd (true≢false (sym (ap is_given e)))
 
 module _ (s : List ℕ) where
-  pub read_done : (n : Numbers) → read_answer s ≡ Given n → (line_answer s ≡ Done) × (numbers_in s ≡ n)
+  pub read_done : (n : Numbers) → read_answer s ≡ Ok n → (line_answer s ≡ done) × (numbers_in s ≡ n)
   unfolding read_answer
   read_done n = given-next (line_answer s) (numbers_in s) n
 
-  pub done_read : line_answer s ≡ Done → read_answer s ≡ Given (numbers_in s)
+  pub done_read : line_answer s ≡ done → read_answer s ≡ Ok (numbers_in s)
   unfolding read_answer
-  done_read e = ap (λ o. next o NotRead (Given (numbers_in s))) e
+  done_read e = ap (λ o. next o Err (Ok (numbers_in s))) e

@@ -1,4 +1,6 @@
 -- A line is read exactly when it has the paper's form: both ask the same of each field and each comma.
+use Rattle.refusal.specs.Refusals.{done}
+use Rattle.std.specs.Prelude.{Ok}
 use mathlib.Core.Bool.{and-eq-true_iff, not, true}
 use mathlib.Core.List.{List}
 use mathlib.Core.Path.{◌≡◌, ◌∙◌, ap, refl, subst, sym}
@@ -16,8 +18,6 @@ use Rattle.passage.specs.Format.{allowed_at, allows, follows, is_plate_byte, kin
 use Rattle.passage.specs.Read.{bytes_answer, numbers_in, read_answer}
 use Rattle.passage.specs.Runs.{Run}
 use Rattle.passage.specs.declared.format.Kind.TheVariants.{Comma, Digit, Hex}
-use Rattle.passage.specs.declared.read.Reading.TheVariants.{Given}
-use Rattle.refusal.specs.declared.outcome.Outcome.TheVariants.{Done}
 use Rattle.text.proofs.Digits.{digit_bounds}
 use Rattle.text.specs.Decimal.{is_digit}
 use Rattle.text.specs.Hex.{is_hex}
@@ -78,14 +78,14 @@ module _ (s : List ℕ) (form : PassageLine s) where
       blind_allowed
       k
 
-  form-read : read_answer s ≡ Given (numbers_in s)
+  form-read : read_answer s ≡ Ok (numbers_in s)
   form-read =
       done_read s
       (long_line s form.size
       ∙ bytes_right s all_allowed (λ e. omega (arith, form.lane-from_1)) form.axles-from_2)
 
 -- From the reading to the form.
-module _ (s : List ℕ) (long : length s ≡ 63) (right : bytes_answer s ≡ Done) where
+module _ (s : List ℕ) (long : length s ≡ 63) (right : bytes_answer s ≡ done) where
   all : AllAllowed s
   all = right_allowed s right
 

@@ -1,6 +1,8 @@
 -- Reading and writing undo each other. Of a line that is written each number fits its digits, so it is read back, and plate and blind stand
 -- in it as they are. A line that is read has digits where its numbers stand and commas between its fields, so the line of its fields has
 -- the same byte at every place.
+use Rattle.refusal.specs.Refusals.{done}
+use Rattle.std.specs.Prelude.{Err, Ok}
 use mathlib.Core.Bool.{cond, not}
 use mathlib.Core.List.{List}
 use mathlib.Core.Logic.{◌↔◌}
@@ -25,24 +27,22 @@ use Rattle.passage.specs.RoundTrip.{RoundTrip, line_left}
 use Rattle.passage.specs.Write.{line_of, write_answer, write_left}
 use Rattle.passage.specs.declared.format.Kind.TheVariants.{Comma}
 use Rattle.passage.specs.declared.numbers.Numbers.{Numbers}
-use Rattle.passage.specs.declared.read.Reading.TheVariants.{Given}
 use Rattle.refusal.proofs.Tests.{equal_iff, past}
-use Rattle.refusal.specs.declared.outcome.Outcome.TheVariants.{Done, Refused}
 use Rattle.refusal.specs.declared.outcome.Refusal.TheVariants.{BufferTooShort, LineNot63}
 use Rattle.text.specs.Text.{comma}
 
 -- a line is written where plate and blind are as long as they have to be, its bytes are right and it has room
 write_done : (n : Numbers) (p b : List ℕ) (room : ℕ)
-    → (write_answer n p b room ≡ Done)
-    ↔ ((length p ≡ 10) × ((length b ≡ 32) × ((bytes_answer (line_of n p b) ≡ Done) × (cond (ltb room 63) (Refused BufferTooShort) Done ≡ Done))))
+    → (write_answer n p b room ≡ done)
+    ↔ ((length p ≡ 10) × ((length b ≡ 32) × ((bytes_answer (line_of n p b) ≡ done) × (cond (ltb room 63) (Err BufferTooShort) done ≡ done))))
 unfolding write_answer
 write_done n p b room =
-    past (not (eqb (length p) 10)) (Refused LineNot63) _ Done (equal_iff (length p) 10) (λ e. omega arith)
-    (past (not (eqb (length b) 32)) (Refused LineNot63) _ Done (equal_iff (length b) 32) (λ e. omega arith)
-    (next_done (bytes_answer (line_of n p b)) (cond (ltb room 63) (Refused BufferTooShort) Done)))
+    past (not (eqb (length p) 10)) (Err LineNot63) _ done (equal_iff (length p) 10) (λ e. omega arith)
+    (past (not (eqb (length b) 32)) (Err LineNot63) _ done (equal_iff (length b) 32) (λ e. omega arith)
+    (next_done (bytes_answer (line_of n p b)) (cond (ltb room 63) (Err BufferTooShort) done)))
 
 -- the line at the front of the buffer
-left-line : (n : Numbers) (p b out : List ℕ) → write_answer n p b (length out) ≡ Done → line_left n p b out ≡ line_of n p b
+left-line : (n : Numbers) (p b out : List ℕ) → write_answer n p b (length out) ≡ done → line_left n p b out ≡ line_of n p b
 left-line n p b out e =
     let done = (write_done n p b (length out)).0 e in
     ap (λ r. take line_length (write_left r n p b out)) e
@@ -52,7 +52,7 @@ abbrev numbers : ℕ → ℕ → ℕ → ℕ → Numbers
 numbers l t c a = record { lane = l; time = t; class = c; axles = a }
 
 -- Reading what was written.
-module _ (n : Numbers) (p b : List ℕ) (long-p : length p ≡ 10) (long-b : length b ≡ 32) (right : bytes_answer (line_of n p b) ≡ Done) where
+module _ (n : Numbers) (p b : List ℕ) (long-p : length p ≡ 10) (long-b : length b ≡ 32) (right : bytes_answer (line_of n p b) ≡ done) where
   abbrev fit : Fit n
   fit = allowed_fit n p b (right_allowed (line_of n p b) right)
 
@@ -62,8 +62,8 @@ module _ (n : Numbers) (p b : List ℕ) (long-p : length p ≡ 10) (long-b : len
       ap₂ (λ l t. numbers l t (number_in class (line_of n p b)) (number_in axles (line_of n p b))) (lane_in n p b fit) (time_in n p b fit)
       ∙ ap₂ (numbers n.lane n.time) (class_in n p b fit) (axles_in_lem n p b fit)
 
-  read_back : read_answer (line_of n p b) ≡ Given n
-  read_back = done_read (line_of n p b) (long_line (line_of n p b) (length-line n p b long-p long-b) ∙ right) ∙ ap Given numbers_back
+  read_back : read_answer (line_of n p b) ≡ Ok n
+  read_back = done_read (line_of n p b) (long_line (line_of n p b) (length-line n p b long-p long-b) ∙ right) ∙ ap Ok numbers_back
 
   plate_back : bytes_in plate (line_of n p b) ≡ p
   plate_back = ap (take 10) (plate_part n p b long-p).stands ∙ take_at p _ 10 long-p
@@ -72,7 +72,7 @@ module _ (n : Numbers) (p b : List ℕ) (long-p : length p ≡ 10) (long-b : len
   blind_back = ap (take 32) (blind_part n p b long-p) ∙ take_all 32 b (le_of_eq long-b)
 
 -- Writing what was read.
-module _ (s : List ℕ) (long : length s ≡ 63) (right : bytes_answer s ≡ Done) where
+module _ (s : List ℕ) (long : length s ≡ 63) (right : bytes_answer s ≡ done) where
   abbrev p : List ℕ
   p = bytes_in plate s
 
@@ -134,11 +134,11 @@ round_trip =
           let read = read_done s n e in
           let told = (line_right s).0 read.0 in
           let line = line-again s told.0 told.1 in
-          let done : write_answer (numbers_in s) (bytes_in plate s) (bytes_in blind s) (length out) ≡ Done =
+          let done : write_answer (numbers_in s) (bytes_in plate s) (bytes_in blind s) (length out) ≡ done =
           (write_done (numbers_in s) (bytes_in plate s) (bytes_in blind s) (length out)).1
           (long_plate s told.0 told.1, (long_blind s told.0 told.1, (ap bytes_answer line ∙ told.1, simp (le-ltb (length out) 63 room)))) in
           subst
-          (λ m. (write_answer m (bytes_in plate s) (bytes_in blind s) (length out) ≡ Done) × (line_left m (bytes_in plate s) (bytes_in blind s) out ≡ s))
+          (λ m. (write_answer m (bytes_in plate s) (bytes_in blind s) (length out) ≡ done) × (line_left m (bytes_in plate s) (bytes_in blind s) out ≡ s))
           read.1
           (done, left-line (numbers_in s) (bytes_in plate s) (bytes_in blind s) out done ∙ line);
     }

@@ -1,5 +1,7 @@
 -- A line that is sealed is a record of 504 bits, and what `seal` leaves is what digest and producer leave of it; so demand 3's last
 -- sentence says that it is accepted.
+use Rattle.refusal.specs.Refusals.{done}
+use Rattle.std.specs.Prelude.{Ok}
 use mathlib.Core.List.{List}
 use mathlib.Core.Path.{◌≡◌, ◌∙◌, ap, sym}
 use Prim.Native.Nat.{ℕ, ◌*◌, ◌≤◌}
@@ -19,7 +21,6 @@ use Rattle.passage.specs.Sealed.{SealedAccepted}
 use Rattle.record.proofs.Demand3.{demand3}
 use Rattle.record.proofs.DigestBits.{length-digest}
 use Rattle.record.specs.Produce.{produce_answer, produce_left}
-use Rattle.refusal.specs.declared.outcome.Outcome.TheVariants.{Done}
 use Rattle.refusal.specs.declared.outcome.Refusal.TheVariants.{BufferTooShort}
 use Rattle.sm3.specs.Message.{digest_bytes}
 
@@ -29,7 +30,7 @@ record Sealed (s : List ℕ) (d a : ℕ) : Type 0 where
   digest-room : 32 ≤ d
   assignment_room : 8 * wire_count (Record line_bits) ≤ a
 
-sealed_done : (s : List ℕ) (d a : ℕ) → seal_answer s d a ≡ Done → Sealed s d a
+sealed_done : (s : List ℕ) (d a : ℕ) → seal_answer s d a ≡ done → Sealed s d a
 unfolding seal_answer
 sealed_done s d a e =
     let told = (next_done (line_answer s) _).0 e in

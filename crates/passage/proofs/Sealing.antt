@@ -1,5 +1,7 @@
 -- A line that is not refused is a record of 504 bits, and it fills its bytes. So where both buffers are long enough neither the digest nor
 -- the producer refuses, and `seal` answers as they do.
+use Rattle.refusal.specs.Refusals.{Outcome, done}
+use Rattle.std.specs.Prelude.{Err, Ok}
 use mathlib.Core.List.{List}
 use mathlib.Core.Path.{◌≡◌, ◌∙◌, refl}
 use Prim.Native.Nat.{ℕ, ◌*◌, ◌<◌, ◌≤◌}
@@ -18,8 +20,6 @@ use Rattle.passage.specs.Format.{line_length}
 use Rattle.passage.specs.Read.{line_answer}
 use Rattle.passage.specs.Seal.{line_bits, seal_answer}
 use Rattle.record.specs.Produce.{produce_answer}
-use Rattle.refusal.specs.declared.outcome.Outcome.TheVariants.{Done, Refused}
-use Rattle.refusal.specs.declared.outcome.Outcome.{Outcome}
 use Rattle.refusal.specs.declared.outcome.Refusal.TheVariants.{BufferTooShort}
 use Rattle.refusal.specs.declared.outcome.Refusal.{Refusal}
 use Rattle.sm3.specs.Digest.{digest_answer}
@@ -42,28 +42,28 @@ handed_line : (s : List ℕ) (more : Outcome) → length s ≡ line_length → h
 unfolding handed_answer allowance blocks record_bytes_answer spare_bits number
 handed_line s more long = simp (eq-eqb (length s) line_length long)
 
-pub line_digested : (s : List ℕ) (room : ℕ) → length s ≡ line_length → 32 ≤ room → digest_answer partner_limit line_bits s room ≡ Done
+pub line_digested : (s : List ℕ) (room : ℕ) → length s ≡ line_length → 32 ≤ room → digest_answer partner_limit line_bits s room ≡ done
 line_digested s room long enough = handed_line s _ long ∙ simp (le-ltb room 32 enough)
 
 pub line_produced : (s : List ℕ) (room : ℕ) → length s ≡ line_length → 8 * wire_count (Record line_bits) ≤ room
-    → produce_answer partner_limit line_bits s room ≡ Done
+    → produce_answer partner_limit line_bits s room ≡ done
 line_produced s room long enough = handed_line s _ long ∙ simp (le-ltb room (8 * wire_count (Record line_bits)) enough)
 
 module _ (s : List ℕ) (digestRoom assignmentRoom : ℕ) where
-  pub seal-refused : (r : Refusal) → line_answer s ≡ Refused r → seal_answer s digestRoom assignmentRoom ≡ Refused r
+  pub seal-refused : (r : Refusal) → line_answer s ≡ Err r → seal_answer s digestRoom assignmentRoom ≡ Err r
   unfolding seal_answer
   seal-refused r e = simp e
 
-  module _ (e : line_answer s ≡ Done) where
-    pub digest_short : digestRoom < 32 → seal_answer s digestRoom assignmentRoom ≡ Refused BufferTooShort
+  module _ (e : line_answer s ≡ done) where
+    pub digest_short : digestRoom < 32 → seal_answer s digestRoom assignmentRoom ≡ Err BufferTooShort
     unfolding seal_answer
     digest_short short = simp (e, lt-ltb digestRoom 32 short)
 
     module _ (enough : 32 ≤ digestRoom) where
-      pub assignment_short : assignmentRoom < 8 * wire_count (Record line_bits) → seal_answer s digestRoom assignmentRoom ≡ Refused BufferTooShort
+      pub assignment_short : assignmentRoom < 8 * wire_count (Record line_bits) → seal_answer s digestRoom assignmentRoom ≡ Err BufferTooShort
       unfolding seal_answer
       assignment_short short = simp (e, le-ltb digestRoom 32 enough, lt-ltb assignmentRoom (8 * wire_count (Record line_bits)) short)
 
-      pub line_sealed : 8 * wire_count (Record line_bits) ≤ assignmentRoom → seal_answer s digestRoom assignmentRoom ≡ Done
+      pub line_sealed : 8 * wire_count (Record line_bits) ≤ assignmentRoom → seal_answer s digestRoom assignmentRoom ≡ done
       unfolding seal_answer
       line_sealed room = simp (e, le-ltb digestRoom 32 enough, le-ltb assignmentRoom (8 * wire_count (Record line_bits)) room)

@@ -1,10 +1,9 @@
 -- "A passage is one line of 63 bytes .." (document 02, request 3): a line is read exactly when it has the paper's form, which is said here
 -- field by field, of raw bytes and apart from the definitions that the contracts cite.
-use Rattle.std.specs.Prelude.{Bool, true, List, ◌↔◌, ◌≡◌, ℕ, ◌+◌, ◌<◌, ◌≤◌, get_or, length}
+use Rattle.std.specs.Prelude.{Bool, true, List, ◌↔◌, ◌≡◌, ℕ, ◌+◌, ◌<◌, ◌≤◌, get_or, length, Ok}
 use Rattle.passage.specs.Format.{is_plate_byte, number_from}
 use Rattle.passage.specs.Read.{read_answer}
 use Rattle.passage.specs.declared.numbers.Numbers.{Numbers}
-use Rattle.passage.specs.declared.read.Reading.TheVariants.{Given}
 use Rattle.text.specs.Decimal.{is_digit}
 use Rattle.text.specs.Hex.{is_hex}
 use Rattle.text.specs.Text.{comma, hyphen}
@@ -48,4 +47,4 @@ pub record PassageLine (s : List ℕ) : Type 0 where
 
 -- a line is read exactly when it has this form
 abbrev pub ReadExactly : Type 0
-ReadExactly = (s : List ℕ) → (((n : Numbers) × (read_answer s ≡ Given n)) ↔ PassageLine s)
+ReadExactly = (s : List ℕ) → (((n : Numbers) × (read_answer s ≡ Ok n)) ↔ PassageLine s)

@@ -1,34 +1,31 @@
 -- The answer of `read` (document 02, request 3).
-use Rattle.std.specs.Prelude.{cond, not, ◌||◌, List, ℕ, eqb, ltb, length}
+use Rattle.refusal.specs.Refusals.{Outcome, done}
+use Rattle.std.specs.Prelude.{cond, not, ◌||◌, List, ℕ, eqb, ltb, length, Err, Ok, Result}
 use Rattle.encoding.specs.Lowest.{lowest_failing}
 use Rattle.passage.specs.Format.{allowed_at, axles, class, lane, line_length, number_in, time}
 use Rattle.passage.specs.declared.numbers.Numbers.{Numbers}
-use Rattle.passage.specs.declared.read.Reading.TheVariants.{Given, Refused as NotRead}
-use Rattle.passage.specs.declared.read.Reading.{Reading}
-use Rattle.refusal.specs.declared.outcome.Outcome.TheVariants.{Done, Refused}
-use Rattle.refusal.specs.declared.outcome.Outcome.{Outcome}
 use Rattle.refusal.specs.declared.outcome.Refusal.TheVariants.{LaneOrAxlesTooLow, LineNot63, WrongByte}
 use Rattle.refusal.specs.declared.outcome.Refusal.{Refusal}
 
 -- what comes next where nothing was refused
 abbrev pub next : {A : Type 0} → Outcome → (Refusal → A) → A → A
-next Done refuse goOn = goOn
-next (Refused r) refuse goOn = refuse r
+next (Ok _) refuse goOn = goOn
+next (Err r) refuse goOn = refuse r
 
 -- 16 and 17: the answer about the 63 bytes of a line
 unfoldable pub bytes_answer : List ℕ → Outcome
 bytes_answer s =
     -- "16, a byte .. that its place does not allow (lowest byte returned, from 0 ..), after 15"
-    lowest_failing (allowed_at s) (λ k. Refused (WrongByte (record { 0 = k })))
+    lowest_failing (allowed_at s) (λ k. Err (WrongByte (record { 0 = k })))
     -- "17, lane 000 or axles below 02, after 16"
-    (cond (eqb (number_in lane s) 0 || ltb (number_in axles s) 2) (Refused LaneOrAxlesTooLow) Done)
+    (cond (eqb (number_in lane s) 0 || ltb (number_in axles s) 2) (Err LaneOrAxlesTooLow) done)
     0 line_length
 
 -- what is asked of a line that is handed over
 unfoldable pub line_answer : List ℕ → Outcome
 line_answer s =
     -- "15, not 63 bytes, after 1"
-    cond (not (eqb (length s) line_length)) (Refused LineNot63) (bytes_answer s)
+    cond (not (eqb (length s) line_length)) (Err LineNot63) (bytes_answer s)
 
 -- the numbers of a line's fields
 unfoldable pub numbers_in : List ℕ → Numbers
@@ -36,5 +33,5 @@ numbers_in s =
     record { lane = number_in lane s; time = number_in time s; class = number_in class s; axles = number_in axles s }
 
 -- what is read: the numbers; "plate and blind [are] their bytes in the line"
-unfoldable pub read_answer : List ℕ → Reading
-read_answer s = next (line_answer s) NotRead (Given (numbers_in s))
+unfoldable pub read_answer : List ℕ → Result Numbers Refusal
+read_answer s = next (line_answer s) Err (Ok (numbers_in s))

@@ -1,11 +1,9 @@
 -- The answer of `write` and the bytes that it leaves (document 02, request 3).
-use Rattle.std.specs.Prelude.{cond, not, List, [], ◌∷◌, ◌++◌, ℕ, zero, suc, ◌/◌, ◌%◌, eqb, ltb, drop, length}
+use Rattle.std.specs.Prelude.{cond, not, List, [], ◌∷◌, ◌++◌, ℕ, zero, suc, ◌/◌, ◌%◌, eqb, ltb, drop, length, Err, Ok}
 use Rattle.passage.specs.Format.{axles, blind, class, lane, line_length, plate, time}
 use Rattle.passage.specs.Read.{bytes_answer, next}
 use Rattle.passage.specs.declared.numbers.Numbers.{Numbers}
-use Rattle.refusal.specs.Refusals.{left}
-use Rattle.refusal.specs.declared.outcome.Outcome.TheVariants.{Done, Refused}
-use Rattle.refusal.specs.declared.outcome.Outcome.{Outcome}
+use Rattle.refusal.specs.Refusals.{left, Outcome, done}
 use Rattle.refusal.specs.declared.outcome.Refusal.TheVariants.{BufferTooShort, LineNot63}
 use Rattle.text.specs.Decimal.{digit}
 use Rattle.text.specs.Text.{comma}
@@ -26,13 +24,13 @@ line_of n p b =
 unfoldable pub write_answer : Numbers → List ℕ → List ℕ → ℕ → Outcome
 write_answer n p b room =
     -- "15, not 63 bytes": the line is as long as it has to be where plate and blind are
-    cond (not (eqb (length p) plate.many)) (Refused LineNot63)
-    (cond (not (eqb (length b) blind.many)) (Refused LineNot63)
+    cond (not (eqb (length p) plate.many)) (Err LineNot63)
+    (cond (not (eqb (length b) blind.many)) (Err LineNot63)
     -- "16, a byte, or in writing a field's value, that its place does not allow (.. in writing, a number too great for its digits, or
     -- class 0, gives its field's first byte)": what place allows which value says `Values` of specs/Values; and 17
-    (next (bytes_answer (line_of n p b)) Refused
+    (next (bytes_answer (line_of n p b)) Err
     -- "From here refusal 4 also covers any other written buffer shorter than its result."
-    (cond (ltb room line_length) (Refused BufferTooShort) Done)))
+    (cond (ltb room line_length) (Err BufferTooShort) done)))
 
 -- what is left in the buffer: the line and the bytes past it, which "keep their value"
 abbrev pub write_left : Outcome → Numbers → List ℕ → List ℕ → List ℕ → List ℕ

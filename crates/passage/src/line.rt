@@ -12,7 +12,7 @@ use crate::places::{
     PLATE, TIME, TIME_DIGITS,
 };
 use refusal::numbers::ByteNumber;
-use refusal::outcome::{Outcome, Refusal};
+use refusal::outcome::Refusal;
 
 // The lowest wrong place of a field whose n places are of one kind and of the comma behind it, or the place behind both.
 fn wrong_in_field(kind: Kind, line: &[u8], first: usize, n: usize) -> usize
@@ -60,21 +60,21 @@ fn wrong_in_line(line: &[u8]) -> usize
 }
 
 // The refusal of a line, if there is one.
-pub fn ask_line(line: &[u8]) -> Outcome
+pub fn ask_line(line: &[u8]) -> Result<(), Refusal>
     ensures { result ≡ line_answer line.now }
 {
     if line.len() != LINE_LENGTH {
-        return Outcome::Refused(Refusal::LineNot63);
+        return Err(Refusal::LineNot63);
     }
     let wrong = wrong_in_line(line);
     if wrong < LINE_LENGTH {
-        return Outcome::Refused(Refusal::WrongByte(ByteNumber(wrong as u64)));
+        return Err(Refusal::WrongByte(ByteNumber(wrong as u64)));
     }
     if number_from(line, LANE, LANE_DIGITS) == 0 {
-        return Outcome::Refused(Refusal::LaneOrAxlesTooLow);
+        return Err(Refusal::LaneOrAxlesTooLow);
     }
     if number_from(line, AXLES, AXLES_DIGITS) < 2 {
-        return Outcome::Refused(Refusal::LaneOrAxlesTooLow);
+        return Err(Refusal::LaneOrAxlesTooLow);
     }
-    Outcome::Done
+    Ok(())
 }

@@ -7,28 +7,18 @@ use crate::numbers::{Numbers, number_from};
 use crate::places::{
     AXLES, AXLES_DIGITS, CLASS, CLASS_DIGITS, LANE, LANE_DIGITS, TIME, TIME_DIGITS,
 };
-use refusal::outcome::{Outcome, Refusal};
-
-// The answer of `read`.
-#[derive(Clone, Copy)]
-pub enum Reading {
-    Given(Numbers),
-    Refused(Refusal),
-}
+use refusal::outcome::Refusal;
 
 // Reads a line.
-pub fn read(line: &[u8]) -> Reading
+pub fn read(line: &[u8]) -> Result<Numbers, Refusal>
     ensures { result ≡ read_answer line.now }
 {
-    let answer = ask_line(line);
-    if let Outcome::Refused(refusal) = answer {
-        return Reading::Refused(refusal);
-    }
+    ask_line(line)?;
     let lane = number_from(line, LANE, LANE_DIGITS);
     let time = number_from(line, TIME, TIME_DIGITS);
     let class = number_from(line, CLASS, CLASS_DIGITS);
     let axles = number_from(line, AXLES, AXLES_DIGITS);
-    Reading::Given(Numbers {
+    Ok(Numbers {
         lane,
         time,
         class,

@@ -5,7 +5,7 @@ ghost use Rattle.passage.specs.Seal.{assignment_of_line, digest_of_line, seal_an
 use crate::line::ask_line;
 use limits::limit::PARTNER_LIMIT;
 use record::produce::produce;
-use refusal::outcome::{Outcome, Refusal};
+use refusal::outcome::Refusal;
 
 // The bits of a line.
 pub const LINE_BITS: u64 = 504;
@@ -18,20 +18,17 @@ const ASSIGNMENT_BYTES: usize = 364552;
 
 // Seals a line: its digest into the front of `digest`, its assignment into the front of `assignment`. Both are measured before
 // either is written.
-pub fn seal(line: &[u8], digest: &mut [u8], assignment: &mut [u8]) -> Outcome
+pub fn seal(line: &[u8], digest: &mut [u8], assignment: &mut [u8]) -> Result<(), Refusal>
     ensures value { result ≡ seal_answer line.now (length digest.old) (length assignment.old) }
     ensures digest_after { digest.new ≡ digest_of_line result line.now digest.old }
     ensures assignment_after { assignment.new ≡ assignment_of_line result line.now assignment.old }
 {
-    let answer = ask_line(line);
-    if let Outcome::Refused(refusal) = answer {
-        return Outcome::Refused(refusal);
-    }
+    ask_line(line)?;
     if digest.len() < DIGEST_BYTES {
-        return Outcome::Refused(Refusal::BufferTooShort);
+        return Err(Refusal::BufferTooShort);
     }
     if assignment.len() < ASSIGNMENT_BYTES {
-        return Outcome::Refused(Refusal::BufferTooShort);
+        return Err(Refusal::BufferTooShort);
     }
     sm3::digest::digest(PARTNER_LIMIT, LINE_BITS, line, digest);
     produce(PARTNER_LIMIT, LINE_BITS, line, assignment)

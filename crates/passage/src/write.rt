@@ -14,7 +14,7 @@ use crate::places::{
     LINE_LENGTH, PLATE, PLATE_LENGTH, TIME, TIME_DIGITS,
 };
 use refusal::numbers::ByteNumber;
-use refusal::outcome::{Outcome, Refusal};
+use refusal::outcome::Refusal;
 
 // The first place of the first number that is too great for its digits or class 0, or the plate's where there is none.
 fn wrong_number(numbers: Numbers) -> usize
@@ -104,29 +104,29 @@ fn put_line(numbers: Numbers, plate: &[u8], blind: &[u8], out: &mut [u8])
 }
 
 // Writes the line of the fields into the front of `out`.
-pub fn write(numbers: Numbers, plate: &[u8], blind: &[u8], out: &mut [u8]) -> Outcome
+pub fn write(numbers: Numbers, plate: &[u8], blind: &[u8], out: &mut [u8]) -> Result<(), Refusal>
     ensures value { result ≡ write_answer numbers plate.now blind.now (length out.old) }
     ensures out_after { out.new ≡ write_left result numbers plate.now blind.now out.old }
 {
     if plate.len() != PLATE_LENGTH {
-        return Outcome::Refused(Refusal::LineNot63);
+        return Err(Refusal::LineNot63);
     }
     if blind.len() != BLIND_LENGTH {
-        return Outcome::Refused(Refusal::LineNot63);
+        return Err(Refusal::LineNot63);
     }
     let wrong = wrong_value(numbers, plate, blind);
     if wrong < LINE_LENGTH {
-        return Outcome::Refused(Refusal::WrongByte(ByteNumber(wrong as u64)));
+        return Err(Refusal::WrongByte(ByteNumber(wrong as u64)));
     }
     if numbers.lane == 0 {
-        return Outcome::Refused(Refusal::LaneOrAxlesTooLow);
+        return Err(Refusal::LaneOrAxlesTooLow);
     }
     if numbers.axles < 2 {
-        return Outcome::Refused(Refusal::LaneOrAxlesTooLow);
+        return Err(Refusal::LaneOrAxlesTooLow);
     }
     if out.len() < LINE_LENGTH {
-        return Outcome::Refused(Refusal::BufferTooShort);
+        return Err(Refusal::BufferTooShort);
     }
     put_line(numbers, plate, blind, out);
-    Outcome::Done
+    Ok(())
 }

@@ -1,5 +1,7 @@
 -- The operations' answers have room in one number. A byte that is named is below 63, and the numbers of a line that is read have no more
 -- digits than their fields.
+use Rattle.refusal.specs.Refusals.{Outcome, done}
+use Rattle.std.specs.Prelude.{Err, Ok}
 use mathlib.Core.Bool.{not, ◌||◌}
 use mathlib.Core.List.{List}
 use mathlib.Core.Path.{◌≡◌, refl}
@@ -17,11 +19,8 @@ use Rattle.passage.specs.Read.{bytes_answer, line_answer, next, numbers_in, read
 use Rattle.passage.specs.Seal.{line_bits, seal_answer}
 use Rattle.passage.specs.Write.{line_of, write_answer}
 use Rattle.passage.specs.declared.numbers.Numbers.{Numbers}
-use Rattle.passage.specs.declared.read.Reading.TheVariants.{Given, Refused as NotRead}
 use Rattle.passage_c.specs.Small.{SmallReading}
 use Rattle.refusal.proofs.Small.{Small, bare, done_small, room_small, tested}
-use Rattle.refusal.specs.declared.outcome.Outcome.TheVariants.{Done, Refused}
-use Rattle.refusal.specs.declared.outcome.Outcome.{Outcome}
 
 bytes_small : (s : List ℕ) → Small (bytes_answer s)
 unfolding bytes_answer
@@ -34,9 +33,9 @@ line_small : (s : List ℕ) → Small (line_answer s)
 unfolding line_answer
 line_small s = tested Small (not (eqb (length s) line_length)) (bare refl) (λ _. bytes_small s)
 
-next_small : (o more : Outcome) → Small o → Small more → Small (next o Refused more)
-next_small Done more first small = small
-next_small (Refused r) more first small = first
+next_small : (o more : Outcome) → Small o → Small more → Small (next o Err more)
+next_small (Ok _) more first small = small
+next_small (Err r) more first small = first
 
 pub seal_small : (s : List ℕ) (d a : ℕ) → Small (seal_answer s d a)
 unfolding seal_answer
@@ -50,9 +49,9 @@ write_small n p b room =
     tested Small (not (eqb (length b) 32)) (bare refl)
     (λ _. next_small (bytes_answer (line_of n p b)) _ (bytes_small (line_of n p b)) (room_small (ltb room line_length))))
 
-reading_small : (o : Outcome) (m : Numbers) → Small o → (o ≡ Done → Fit m) → SmallReading (next o NotRead (Given m))
-reading_small Done m small fit = fit refl
-reading_small (Refused r) m small fit = small.room
+reading_small : (o : Outcome) (m : Numbers) → Small o → (o ≡ done → Fit m) → SmallReading (next o Err (Ok m))
+reading_small (Ok _) m small fit = fit refl
+reading_small (Err r) m small fit = small.room
 
 pub read_small : (s : List ℕ) → SmallReading (read_answer s)
 unfolding read_answer

@@ -30,8 +30,8 @@ fn pack_reading(reading: Reading) -> u64
     ensures { result ≡ packed_reading reading }
 {
     match reading {
-        Reading::Given(n) => pack_numbers(n),
-        Reading::Refused(refusal) => pack_refusal(refusal),
+        Ok(n) => pack_numbers(n),
+        Err(refusal) => pack_refusal(refusal),
     }
 }
 

@@ -1,5 +1,7 @@
 -- Demand 3, an instance of the law of exact acceptance. The witness is a record in its bytes: its wires are the layout's, its digest is its SM3,
 -- and it is read off the record wires and packed into bytes. The rows hold exactly where the wires are those of the record that is read off.
+use Rattle.refusal.specs.Refusals.{done}
+use Rattle.std.specs.Prelude.{Ok}
 use mathlib.Core.List.{List}
 use mathlib.Core.Path.{◌≡◌, ◌∙◌, subst, sym}
 use Prim.Native.Nat.{ℕ, ◌+◌, ◌*◌, ◌<◌, ◌≤◌}
@@ -26,7 +28,6 @@ use Rattle.record.specs.Check.{check_answer}
 use Rattle.record.specs.Demand3.{Demand3}
 use Rattle.record.specs.Layout.{record_wire, wire_of}
 use Rattle.record.specs.Produce.{assignment_of, produce_answer}
-use Rattle.refusal.specs.declared.outcome.Outcome.TheVariants.{Done}
 use Rattle.sm3.specs.Message.{digest_bytes}
 
 -- wire 0 of a record, and its digest wires
@@ -57,7 +58,7 @@ record_layout n =
     }
 
 -- a record that the limit allows is not refused where there is room
-not_refused : (l n : ℕ) (r : List ℕ) (room : ℕ) → Allows l n → IsRecord n r → 8 * wire_count (Record n) ≤ room → produce_answer l n r room ≡ Done
+not_refused : (l n : ℕ) (r : List ℕ) (room : ℕ) → Allows l n → IsRecord n r → 8 * wire_count (Record n) ≤ room → produce_answer l n r room ≡ done
 not_refused l n r room allowed is fits = handed_passes n r l _ allowed is ∙ rw (le-ltb room (8 * wire_count (Record n)) fits)
 
 pub demand3 : Demand3

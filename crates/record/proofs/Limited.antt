@@ -1,4 +1,5 @@
 -- What follows the tests of a limit and a length is none of their refusals, and `produce` asks the record's bytes before 22.
+use Rattle.std.specs.Prelude.{Err, Ok}
 use mathlib.Core.Bool.{cond}
 use mathlib.Core.List.{List, []}
 use mathlib.Core.Path.{refl}
@@ -10,7 +11,6 @@ use Rattle.circuit.specs.Places.{row_count}
 use Rattle.circuit.specs.Wires.{wire_count}
 use Rattle.circuit.specs.declared.circuits.Circuit.TheVariants.{Record}
 use Rattle.circuit.specs.declared.circuits.Circuit.{Circuit}
-use Rattle.circuit.specs.declared.given_row.RowAnswer.TheVariants as row
 use Rattle.limits.proofs.Limited.{Other, asks_nothing, limited_operation, other_number, room_other}
 use Rattle.limits.proofs.handed.Asked.{asks_bytes}
 use Rattle.limits.specs.Handed.{handed_answer, record_bytes_answer}
@@ -20,8 +20,7 @@ use Rattle.record.specs.Limited.{RecordLimited}
 use Rattle.record.specs.Produce.{produce_left}
 use Rattle.record.specs.RowAnswer.{row_answer, row_left}
 use Rattle.refusal.proofs.Small.{tested}
-use Rattle.refusal.specs.Refusals.{outcome_number}
-use Rattle.refusal.specs.declared.outcome.Outcome.TheVariants.{Done, Refused}
+use Rattle.refusal.specs.Refusals.{outcome_number, done}
 use Rattle.refusal.specs.declared.outcome.Refusal.TheVariants.{BufferTooShort}
 use Rattle.acceptance.proofs.circuit_check.Answers.{check-holds}
 use Rattle.acceptance.specs.Check.{circuit_check}
@@ -44,15 +43,15 @@ record_limited =
     record {
       row =
           λ n k out.
-          limited_operation row.Refused row_number (λ r. refl) n (λ x. x) (asks_nothing row_number) (given_row (Record n) k (length out))
+          limited_operation Err row_number (λ r. refl) n (λ x. x) (asks_nothing row_number) (given_row (Record n) k (length out))
           (given_other (Record n) k (length out)) (λ answer. row_left answer n k out);
       produce =
           λ n bytes out.
           let wanting = ltb (length out) (8 * wire_count (Record n)) in
-          limited_operation Refused outcome_number (λ r. refl) n (record_bytes_answer n bytes) (asks_bytes n bytes)
-          (cond wanting (Refused BufferTooShort) Done) (room_other wanting) (λ answer. produce_left answer n bytes out);
+          limited_operation Err outcome_number (λ r. refl) n (record_bytes_answer n bytes) (asks_bytes n bytes)
+          (cond wanting (Err BufferTooShort) done) (room_other wanting) (λ answer. produce_left answer n bytes out);
       check =
           λ n d a.
-          limited_operation Refused outcome_number (λ r. refl) n (λ x. x) (asks_nothing outcome_number) (circuit_check (Record n) d a)
+          limited_operation Err outcome_number (λ r. refl) n (λ x. x) (asks_nothing outcome_number) (circuit_check (Record n) d a)
           (check_other (Record n) d a) (λ answer. []);
     }

@@ -1,5 +1,9 @@
 -- Whole bytes. The wires are those of the message, which is the padded bytes, and of the count of its blocks; the tests of each answer
 -- ask the range and the counts, and 13 and 14 do not come up.
+use Rattle.forms.specs.declared.terms.Counts.{Counts}
+use Rattle.refusal.specs.declared.outcome.Refusal.{Refusal}
+use Rattle.refusal.specs.Refusals.{done}
+use Rattle.std.specs.Prelude.{Err, Ok, Result}
 use mathlib.Core.Bool.{cond}
 use mathlib.Core.Path.{◌∙◌, ap, ap₂}
 use Prim.Native.Nat.{◌*◌}
@@ -9,14 +13,11 @@ use Rattle.block.specs.MessageWires.{message_wires}
 use Rattle.circuit.proofs.WholeBytes as circuit
 use Rattle.circuit.specs.GivenRow.{given_row}
 use Rattle.circuit.specs.Wires.{frame_wires}
-use Rattle.circuit.specs.declared.given_row.RowAnswer.TheVariants as row
-use Rattle.circuit.specs.declared.given_row.RowAnswer.{RowAnswer}
 use Rattle.limits.proofs.Limited.{ours_length, ours_stand}
 use Rattle.record.specs.Check.{check_answer}
 use Rattle.record.specs.Layout.{wire_of}
 use Rattle.record.specs.RowAnswer.{row_answer}
 use Rattle.record.specs.WholeBytes.{WholeBytes}
-use Rattle.refusal.specs.declared.outcome.Outcome.TheVariants.{Done, Refused}
 use Rattle.refusal.specs.declared.outcome.Refusal.TheVariants.{BufferTooShort, LengthOutOfRange}
 use Rattle.acceptance.specs.Check.{circuit_check}
 use Rattle.sm3.proofs.WholeBytes.{padded-message, whole_bytes, whole_handed}
@@ -32,11 +33,11 @@ record_whole_bytes =
           ap₂ (λ m c. frame_wires (chaining_value m c) (message_wires m)) (padded-message r) (whole_bytes.block_count_lem (length r));
       row =
           λ L k room.
-          ours_stand RowAnswer row.Refused (λ answer. answer) (8 * L) _ ∙ rw (whole_bytes.range L, (circuit.whole_bytes).row_count_lem L);
+          ours_stand (Result Counts Refusal) Err (λ answer. answer) (8 * L) _ ∙ rw (whole_bytes.range L, (circuit.whole_bytes).row_count_lem L);
       produce =
           λ r room.
           whole_handed r _
-          ∙ ap (λ n. cond (ltb most_bytes (length r)) (Refused LengthOutOfRange) (cond (ltb room (8 * n)) (Refused BufferTooShort) Done))
+          ∙ ap (λ n. cond (ltb most_bytes (length r)) (Err LengthOutOfRange) (cond (ltb room (8 * n)) (Err BufferTooShort) done))
           ((circuit.whole_bytes).wire_count_lem (length r));
       check =
           λ L d a.

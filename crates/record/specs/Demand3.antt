@@ -3,7 +3,8 @@
 -- work, become equality of bytes"; request 8: "Demand 3's lengths and records in range are from here those that the named limit .. allows").
 -- Everything is said of raw bytes, as they are lent, and of the definitions that the contracts of
 -- `check`, `produce` and `digest` cite.
-use Rattle.std.specs.Prelude.{List, ◌↔◌, ◌≡◌, ℕ, ◌*◌, ◌<◌, ◌≤◌, length, take}
+use Rattle.refusal.specs.Refusals.{done}
+use Rattle.std.specs.Prelude.{List, ◌↔◌, ◌≡◌, ℕ, ◌*◌, ◌<◌, ◌≤◌, length, take, Ok}
 use Rattle.assignment.specs.Assignment.{wire_bytes}
 use Rattle.circuit.specs.Wires.{wire_count}
 use Rattle.circuit.specs.declared.circuits.Circuit.TheVariants.{Record}
@@ -14,12 +15,11 @@ use Rattle.limits.specs.Limit.{Allows}
 use Rattle.record.specs.Check.{check_answer}
 use Rattle.record.specs.Layout.{record_wire}
 use Rattle.record.specs.Produce.{assignment_of, produce_answer, produce_left}
-use Rattle.refusal.specs.declared.outcome.Outcome.TheVariants.{Done}
 use Rattle.sm3.specs.Message.{digest_bytes}
 
 -- "An assignment is accepted for a length against a digest when the check of these three returns no refusal": with a limit of l blocks
 abbrev pub IsAccepted : ℕ → ℕ → List ℕ → List ℕ → Type 0
-IsAccepted l n d a = check_answer l n d a ≡ Done
+IsAccepted l n d a = check_answer l n d a ≡ done
 
 pub record Demand3 : Type 0 where
   -- "accepted assignments that agree on the record wires agree everywhere": those that have the same bytes there are the same, also where they

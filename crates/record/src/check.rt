@@ -5,15 +5,12 @@ ghost use Rattle.record.specs.Check.{check_answer};
 use acceptance::circuit_check::check_circuit;
 use circuit::circuits::Circuit;
 use limits::limit::ask_length;
-use refusal::outcome::Outcome;
+use refusal::outcome::Refusal;
 
 // The check of an assignment for a record of so many bits against a digest.
-pub fn check(limit: u64, bits: u64, digest: &[u8], assignment: &[u8]) -> Outcome
+pub fn check(limit: u64, bits: u64, digest: &[u8], assignment: &[u8]) -> Result<(), Refusal>
     ensures { result ≡ check_answer limit bits digest.now assignment.now }
 {
-    let allowed = ask_length(limit, bits);
-    if let Outcome::Refused(refusal) = allowed {
-        return Outcome::Refused(refusal);
-    }
+    ask_length(limit, bits)?;
     check_circuit(Circuit::Record { bits }, digest, assignment)
 }

@@ -16,7 +16,7 @@ use circuit::frame::{DIGEST, FIRST_BLOCK, START};
 use circuit::wire::wire_count;
 use limits::handed::ask_record;
 use refusal::numbers::WireNumber;
-use refusal::outcome::{Outcome, Refusal};
+use refusal::outcome::Refusal;
 use sm3::constants::start_state;
 use sm3::state::State;
 
@@ -40,18 +40,15 @@ pub fn put_assignment(out: &mut [u8], bits: u64, bytes: &[u8])
 }
 
 // The assignment of a record of so many bits, and of no more blocks than the limit, into the first bytes of `out`.
-pub fn produce(limit: u64, bits: u64, bytes: &[u8], out: &mut [u8]) -> Outcome
+pub fn produce(limit: u64, bits: u64, bytes: &[u8], out: &mut [u8]) -> Result<(), Refusal>
     ensures value { result ≡ produce_answer limit bits bytes.now (length out.old) }
     ensures out_after { out.new ≡ produce_left result bits bytes.now out.old }
 {
-    let answer = ask_record(limit, bits, bytes);
-    if let Outcome::Refused(refusal) = answer {
-        return Outcome::Refused(refusal);
-    }
+    ask_record(limit, bits, bytes)?;
     let wires = wire_count(Circuit::Record { bits });
     if (out.len() as u64) < 8 * wires {
-        return Outcome::Refused(Refusal::BufferTooShort);
+        return Err(Refusal::BufferTooShort);
     }
     put_assignment(out, bits, bytes);
-    Outcome::Done
+    Ok(())
 }

@@ -3,19 +3,17 @@ ghost use Rattle.std.specs.Prelude.{◌≡◌, length};
 ghost use Rattle.record.specs.RowAnswer.{row_answer, row_left};
 
 use circuit::circuits::Circuit;
-use circuit::given_row::{RowAnswer, give_row};
+use circuit::given_row::give_row;
+use forms::terms::Counts;
 use limits::limit::ask_length;
 use refusal::numbers::RowNumber;
-use refusal::outcome::Outcome;
+use refusal::outcome::Refusal;
 
 // The row of a number for a record of so many bits, into the front of `out`: the terms of A, then B, then C.
-pub fn row(limit: u64, bits: u64, row: RowNumber, out: &mut [u8]) -> RowAnswer
+pub fn row(limit: u64, bits: u64, row: RowNumber, out: &mut [u8]) -> Result<Counts, Refusal>
     ensures value { result ≡ row_answer limit bits row.0 (length out.old) }
     ensures out_after { out.new ≡ row_left result bits row.0 out.old }
 {
-    let allowed = ask_length(limit, bits);
-    if let Outcome::Refused(refusal) = allowed {
-        return RowAnswer::Refused(refusal);
-    }
+    ask_length(limit, bits)?;
     give_row(Circuit::Record { bits }, row, out)
 }

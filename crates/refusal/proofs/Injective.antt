@@ -1,14 +1,13 @@
 -- The packing is injective: an answer can be read back from its number. The low byte tells which refusal it is, and its value
 -- stands above.
+use Rattle.std.specs.Prelude.{Err, Ok}
 use mathlib.Core.Bool.{cond}
 use mathlib.Core.Path.{◌≡◌, ap, refl, sym, ◌∙◌}
 use Prim.Native.Nat.{ℕ, ◌+◌, ◌*◌, ◌/◌, ◌%◌, ◌<◌}
 use native.Mathlib.Omega.{arith}
 use lib.Dec.{eqb}
 use Rattle.refusal.specs.Packing.{packed, packed_outcome}
-use Rattle.refusal.specs.Refusals.{refusal_number, refusal_values}
-use Rattle.refusal.specs.declared.outcome.Outcome.{Outcome}
-use Rattle.refusal.specs.declared.outcome.Outcome.TheVariants.{Done, Refused}
+use Rattle.refusal.specs.Refusals.{refusal_number, refusal_values, Outcome}
 use Rattle.refusal.specs.declared.outcome.Refusal.{Refusal}
 use Rattle.refusal.specs.declared.outcome.Refusal.TheVariants.{LengthOutOfRange, RowOutOfRange, BufferTooShort, DigestNot32, WrongLength, WireZero, DigestWire, Unsatisfied, EntryNotBit, WrongPackedLength, SpareBit, WrongRecordLength, BitAfterRecord, LineNot63, WrongByte, LaneOrAxlesTooLow, BoundsOutOfRange, NotInBand, EntryNotBelowPrime, LimitOutOfRange, BlocksAboveLimit}
 
@@ -112,7 +111,7 @@ refused LimitOutOfRange e = omega arith
 refused BlocksAboveLimit e = omega arith
 
 pub outcome_injective : (a b : Outcome) → packed_outcome a ≡ packed_outcome b → a ≡ b
-outcome_injective Done Done e = refl
-outcome_injective Done (Refused r) e = absurd (refused r (ap (λ v. v % 256) (sym e)))
-outcome_injective (Refused r) Done e = absurd (refused r (ap (λ v. v % 256) e))
-outcome_injective (Refused r) (Refused s) e = ap Refused (refusal_injective r s e)
+outcome_injective (Ok _) (Ok _) e = refl
+outcome_injective (Ok _) (Err r) e = absurd (refused r (ap (λ v. v % 256) (sym e)))
+outcome_injective (Err r) (Ok _) e = absurd (refused r (ap (λ v. v % 256) e))
+outcome_injective (Err r) (Err s) e = ap Err (refusal_injective r s e)

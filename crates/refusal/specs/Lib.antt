@@ -1,2 +1,3 @@
+pub mod LineRefusals
 pub mod Packing
 pub mod Refusals

@@ -1,8 +1,7 @@
 -- The answer toward a C host: one 64-bit number (docs/HOST.md; document 01, "The product": "Toward the host an answer of
 -- several numbers is one 64-bit number").
 use Rattle.std.specs.Prelude.{List, [], ◌∷◌, ℕ, ◌+◌, ◌*◌}
-use Rattle.refusal.specs.Refusals.{outcome_number, outcome_values}
-use Rattle.refusal.specs.declared.outcome.Outcome.{Outcome}
+use Rattle.refusal.specs.Refusals.{Outcome, outcome_number, outcome_values}
 
 -- the values one above the other, 8 bits apart
 abbrev pub above : List ℕ → ℕ

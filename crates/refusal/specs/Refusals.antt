@@ -1,8 +1,6 @@
 -- The papers' number of every refusal and its values (document 01, "Refusals in checking order": "Each returns its number
 -- and nothing else unless said; no lent byte changes"), and what an operation leaves in a buffer.
-use Rattle.std.specs.Prelude.{List, [], ◌∷◌, ℕ}
-use Rattle.refusal.specs.declared.outcome.Outcome.{Outcome}
-use Rattle.refusal.specs.declared.outcome.Outcome.TheVariants.{Done, Refused}
+use Rattle.std.specs.Prelude.{List, [], ◌∷◌, ℕ, ⊤, Err, Ok, Result}
 use Rattle.refusal.specs.declared.outcome.Refusal.{Refusal}
 use Rattle.refusal.specs.declared.outcome.Refusal.TheVariants.{LengthOutOfRange, RowOutOfRange, BufferTooShort, DigestNot32, WrongLength, WireZero, DigestWire, Unsatisfied, EntryNotBit, WrongPackedLength, SpareBit, WrongRecordLength, BitAfterRecord, LineNot63, WrongByte, LaneOrAxlesTooLow, BoundsOutOfRange, NotInBand, EntryNotBelowPrime, LimitOutOfRange, BlocksAboveLimit}
 
@@ -77,16 +75,24 @@ refusal_values (EntryNotBelowPrime w) = w.0 ∷ []
 refusal_values LimitOutOfRange = []
 refusal_values BlocksAboveLimit = []
 
--- the answer of an operation that hands nothing back: 0 for no refusal
+-- the answer of an operation that hands nothing back
+abbrev pub Outcome : Type 0
+Outcome = Result ⊤ Refusal
+
+-- .. that has done what it was asked
+abbrev pub done : Outcome
+done = Ok tt
+
+-- its number, 0 for no refusal, and its values
 abbrev pub outcome_number : Outcome → ℕ
-outcome_number Done = 0
-outcome_number (Refused r) = refusal_number r
+outcome_number (Ok _) = 0
+outcome_number (Err r) = refusal_number r
 
 abbrev pub outcome_values : Outcome → List ℕ
-outcome_values Done = []
-outcome_values (Refused r) = refusal_values r
+outcome_values (Ok _) = []
+outcome_values (Err r) = refusal_values r
 
 -- what is left of a lent buffer: `written` where the operation is done; "no lent byte changes" on a refusal
 abbrev pub left : Outcome → List ℕ → List ℕ → List ℕ
-left Done written before = written
-left (Refused r) written before = before
+left (Ok _) written before = written
+left (Err r) written before = before

@@ -1,11 +1,13 @@
-// Refusals, and the answer of an operation that hands nothing back.
+// The refusals that several operations share. The answer of an operation that hands nothing back is a `Result<(), Refusal>`: it is done, or it
+// is refused and no lent byte is altered.
 ghost use Rattle.std.specs.Prelude.{◌≡◌, ◌<◌};
-ghost use Rattle.refusal.specs.Refusals.{refusal_number};
+ghost use Rattle.refusal.specs.Packing.{above};
+ghost use Rattle.refusal.specs.Refusals.{refusal_number, refusal_values};
 
 use crate::numbers::{ByteNumber, RowNumber, WireNumber};
 
-// The refusals that several operations share, in the order of their numbers.
-#[derive(Clone, Copy)]
+// The refusals, in the order of their numbers.
+#[derive(Clone, Copy, Debug, PartialEq, Eq)]
 pub enum Refusal {
     // 2: the record length is above 8,127 bits.
     LengthOutOfRange,
@@ -51,38 +53,45 @@ pub enum Refusal {
     BlocksAboveLimit,
 }
 
-// The answer of an operation that hands nothing back: it is done, or it is refused and no lent byte is altered.
-#[derive(Clone, Copy)]
-pub enum Outcome {
-    Done,
-    Refused(Refusal),
-}
+impl Refusal {
+    // The paper's number of a refusal, a byte.
+    pub fn number(self) -> u64
+        ensures { (result ≡ refusal_number self) × (result < 256) }
+    {
+        match self {
+            Refusal::LengthOutOfRange => 2,
+            Refusal::RowOutOfRange => 3,
+            Refusal::BufferTooShort => 4,
+            Refusal::DigestNot32 => 5,
+            Refusal::WrongLength => 6,
+            Refusal::WireZero => 7,
+            Refusal::DigestWire => 8,
+            Refusal::Unsatisfied(_) => 9,
+            Refusal::EntryNotBit(_) => 10,
+            Refusal::WrongPackedLength => 11,
+            Refusal::SpareBit => 12,
+            Refusal::WrongRecordLength => 13,
+            Refusal::BitAfterRecord => 14,
+            Refusal::LineNot63 => 15,
+            Refusal::WrongByte(_) => 16,
+            Refusal::LaneOrAxlesTooLow => 17,
+            Refusal::BoundsOutOfRange => 18,
+            Refusal::NotInBand => 19,
+            Refusal::EntryNotBelowPrime(_) => 20,
+            Refusal::LimitOutOfRange => 21,
+            Refusal::BlocksAboveLimit => 22,
+        }
+    }
 
-// The paper's number of a refusal, a byte.
-pub fn number_of(refusal: Refusal) -> u64
-    ensures { (result ≡ refusal_number refusal) × (result < 256) }
-{
-    match refusal {
-        Refusal::LengthOutOfRange => 2,
-        Refusal::RowOutOfRange => 3,
-        Refusal::BufferTooShort => 4,
-        Refusal::DigestNot32 => 5,
-        Refusal::WrongLength => 6,
-        Refusal::WireZero => 7,
-        Refusal::DigestWire => 8,
-        Refusal::Unsatisfied(_) => 9,
-        Refusal::EntryNotBit(_) => 10,
-        Refusal::WrongPackedLength => 11,
-        Refusal::SpareBit => 12,
-        Refusal::WrongRecordLength => 13,
-        Refusal::BitAfterRecord => 14,
-        Refusal::LineNot63 => 15,
-        Refusal::WrongByte(_) => 16,
-        Refusal::LaneOrAxlesTooLow => 17,
-        Refusal::BoundsOutOfRange => 18,
-        Refusal::NotInBand => 19,
-        Refusal::EntryNotBelowPrime(_) => 20,
-        Refusal::LimitOutOfRange => 21,
-        Refusal::BlocksAboveLimit => 22,
+    // The row, the wire or the byte that a refusal names, 0 where it names none.
+    pub fn value(self) -> u64
+        ensures { result ≡ above (refusal_values self) }
+    {
+        match self {
+            Refusal::Unsatisfied(row) => row.0,
+            Refusal::EntryNotBit(wire) | Refusal::EntryNotBelowPrime(wire) => wire.0,
+            Refusal::WrongByte(byte) => byte.0,
+            _ => 0,
+        }
     }
 }

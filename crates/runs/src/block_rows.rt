@@ -15,7 +15,7 @@ ghost use Rattle.sm3.specs.Sm3.{rotated_constant};
 use crate::message::{content_holds, padding_agrees};
 use agreement::expansion::expanded_words_agree;
 use agreement::past_expansion::rows_past_expansion;
-use agreement::word_read::{StateRead, read_state, read_words};
+use agreement::word_read::{read_state, read_words};
 use block::place::{EXPANDED_ROWS, EXPANSION_ROWS, MESSAGE_ROWS};
 use block::wire::EXPANSION;
 use circuit::circuits::{Circuit, message_of};
@@ -37,7 +37,7 @@ fn computed_rows_passed(
 {
     let first = block_first(i);
     let begin = beginning(message_of(circuit, i), i);
-    let StateRead::Words(v) = read_state(assignment, begin) else {
+    let Some(v) = read_state(assignment, begin) else {
         return 0;
     };
     let words = expanded_words_agree(assignment, WireNumber(first.0 + EXPANSION), x);

@@ -1,5 +1,6 @@
 -- The lowest row that is not satisfied is the lowest place at which the test of a row fails, so the laws of such a place are laws
 -- of that row; and a verdict tells whether there is one.
+use Rattle.std.specs.Prelude.{Some, None, Option}
 use mathlib.Core.Bool.{false, true}
 use mathlib.Core.Logic.{◌↔◌}
 use mathlib.Core.Path.{◌≡◌, ap, subst}
@@ -9,26 +10,24 @@ use Rattle.encoding.proofs.Lowest as failing
 use Rattle.forms.specs.Rows.{Row, Satisfied, holds}
 use Rattle.refusal.specs.declared.numbers.RowNumber.{RowNumber}
 use Rattle.satisfaction.specs.Lowest.{LowestFailing, lowest}
-use Rattle.satisfaction.specs.declared.rows_check.Verdict.TheVariants.{AllSatisfied, Fails}
-use Rattle.satisfaction.specs.declared.rows_check.Verdict.{Verdict}
 
 -- which row a verdict names, counted from 1; 0 for none
-abbrev named : Verdict → ℕ
-named AllSatisfied = 0
-named (Fails k) = suc k.0
+abbrev named : Option RowNumber → ℕ
+named None = 0
+named (Some k) = suc k.0
 
-apart : (j : ℕ) → Fails (record { 0 = j }) ≡ AllSatisfied → ⊥
+apart : (j : ℕ) → Some (record { 0 = j }) ≡ None → ⊥
 apart j e = omega (arith, ap named e)
 
 module _ (a : ℕ → ℕ) (rows : ℕ → Row) where
-  pub lowest_all : (k m : ℕ) → (lowest a rows k m ≡ AllSatisfied) ↔ ((i : ℕ) → k ≤ i → i < k + m → Satisfied a (rows i))
+  pub lowest_all : (k m : ℕ) → (lowest a rows k m ≡ None) ↔ ((i : ℕ) → k ≤ i → i < k + m → Satisfied a (rows i))
   unfolding lowest
-  lowest_all k m = (failing.none_all _ _ AllSatisfied apart k m, failing.lowest-none _ _ AllSatisfied k m)
+  lowest_all k m = (failing.none_all _ _ None apart k m, failing.lowest-none _ _ None k m)
 
-  pub lowest_failing_lem : (k m : ℕ) (j : RowNumber) → lowest a rows k m ≡ Fails j → LowestFailing a rows k (k + m) j.0
+  pub lowest_failing_lem : (k m : ℕ) (j : RowNumber) → lowest a rows k m ≡ Some j → LowestFailing a rows k (k + m) j.0
   unfolding lowest
   lowest_failing_lem k m j =
-      failing.by_lowest _ _ (λ v. v ≡ Fails j → LowestFailing a rows k (k + m) j.0) AllSatisfied k m
+      failing.by_lowest _ _ (λ v. v ≡ Some j → LowestFailing a rows k (k + m) j.0) None k m
       (λ all e. absurd (omega (arith, ap named e)))
       (λ i low e.
       let same : i ≡ j.0 = omega (arith, ap named e) in
@@ -38,19 +37,19 @@ module _ (a : ℕ → ℕ) (rows : ℕ → Row) where
   module _ (n k m : ℕ) (l : k + m ≤ n) where
     pub lowest-past : ((i : ℕ) → k ≤ i → i < k + m → Satisfied a (rows i)) → lowest a rows k (n - k) ≡ lowest a rows (k + m) (n - (k + m))
     unfolding lowest
-    lowest-past = failing.lowest-past _ _ AllSatisfied n k m l
+    lowest-past = failing.lowest-past _ _ None n k m l
 
 -- The lowest of the rows from k on, of n in all.
 module _ (a : ℕ → ℕ) (rows : ℕ → Row) (n k : ℕ) where
-  pub lowest_end : k ≡ n → lowest a rows k (n - k) ≡ AllSatisfied
+  pub lowest_end : k ≡ n → lowest a rows k (n - k) ≡ None
   unfolding lowest
-  lowest_end e = failing.lowest_end _ _ AllSatisfied n k (omega arith)
+  lowest_end e = failing.lowest_end _ _ None n k (omega arith)
 
   module _ (l : k < n) where
     pub lowest-holds : holds a (rows k) ≡ true → lowest a rows k (n - k) ≡ lowest a rows (k + 1) (n - (k + 1))
     unfolding lowest
-    lowest-holds = failing.lowest-holds _ _ AllSatisfied n k l
+    lowest-holds = failing.lowest-holds _ _ None n k l
 
-    pub lowest_fails : holds a (rows k) ≡ false → lowest a rows k (n - k) ≡ Fails (record { 0 = k })
+    pub lowest_fails : holds a (rows k) ≡ false → lowest a rows k (n - k) ≡ Some (record { 0 = k })
     unfolding lowest
-    lowest_fails = failing.lowest_fails _ _ AllSatisfied n k l
+    lowest_fails = failing.lowest_fails _ _ None n k l

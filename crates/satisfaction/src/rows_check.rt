@@ -19,18 +19,9 @@ use runs::by_form::form_holds;
 use runs::held::rows_held;
 use sm3::constants::rotated_constants;
 
-// What rows make of an assignment.
-#[derive(Clone, Copy)]
-pub enum Verdict {
-    // Every row is satisfied.
-    AllSatisfied,
-    // The lowest row that is not satisfied.
-    Fails(RowNumber),
-}
-
 // The lowest row of a circuit that is not satisfied, if there is one: the rows outside, the terms of each row inside. Rows that hold by
 // what a run of wires is, or as their form tells, are passed by.
-pub fn lowest_unsatisfied(circuit: Circuit, assignment: &[u8]) -> Verdict
+pub fn lowest_unsatisfied(circuit: Circuit, assignment: &[u8]) -> Option<RowNumber>
     requires { Allowed circuit × (length assignment.now ≡ 8 * wire_count circuit) × (entry assignment.now 0 ≡ 1) × BelowPrime assignment.now }
     ensures { result ≡ lowest (entry assignment.now) (row_at circuit) 0 (row_count circuit) }
 {
@@ -40,7 +31,7 @@ pub fn lowest_unsatisfied(circuit: Circuit, assignment: &[u8]) -> Verdict
     let mut k = 0;
     'rows: loop {
         if k == end {
-            break 'rows Verdict::AllSatisfied;
+            break 'rows None;
         }
         let held = rows_held(circuit, RowNumber(k), assignment, &constants);
         if 0 < held {
@@ -59,7 +50,7 @@ pub fn lowest_unsatisfied(circuit: Circuit, assignment: &[u8]) -> Verdict
         loop {
             if t == count {
                 if part_product(sums.a, sums.b) != sums.c {
-                    break 'rows Verdict::Fails(RowNumber(k));
+                    break 'rows Some(RowNumber(k));
                 }
                 break;
             }

@@ -1,6 +1,8 @@
 -- Whole bytes. A record of 8 L bits ends where a byte does, so the byte in which the padding begins has no bit of it: it is 128, and
 -- the bytes after it are 0 up to the eight bytes of the length. Past its end the message's definition gives the lowest bit of 8 L, which
 -- is 0, as a list does past its end; so the two sequences are the same everywhere, and all that is computed from them is.
+use Rattle.refusal.specs.Refusals.{Outcome}
+use Rattle.std.specs.Prelude.{Err}
 use Rattle.std.proofs.Common.{◌≡◌, ℕ, zero, suc, ◌+◌, ◌-◌, ◌*◌, ◌/◌, ◌%◌, ◌^◌, ◌<◌, cond, ltb, List, [], ◌∷◌, ◌++◌, length, get_or, sym, refl, ap, ◌∙◌, subst, ap₂, pow-suc, mul-suc, div-one, arith, length-append, get_or-append-add, pow-add, le-ltb, lt-ltb, eq-eqb}
 use mathlib.Core.Logic.{by_cases}
 use mathlib.Core.Path.{fun_ext}
@@ -17,8 +19,6 @@ use Rattle.limits.proofs.Limited.{ours_stand}
 use Rattle.limits.specs.Blocks.{blocks, most_bits}
 use Rattle.limits.specs.Handed.{handed_answer, record_bytes_answer}
 use Rattle.limits.specs.Limit.{our_limit}
-use Rattle.refusal.specs.declared.outcome.Outcome.TheVariants.{Refused}
-use Rattle.refusal.specs.declared.outcome.Outcome.{Outcome}
 use Rattle.refusal.specs.declared.outcome.Refusal.TheVariants.{LengthOutOfRange}
 use Rattle.sm3.proofs.message.MessageBits.{message-length}
 use Rattle.sm3.proofs.message.Padding.{IsByte, cut_after, in_record, length-byte, past_record, record_end}
@@ -137,12 +137,12 @@ module _ (r : List ℕ) where
       fun_ext (λ k. ap (message (8 * L) (bit_of_bytes r)) (sym (div-add-mod k 8)) ∙ sym (message-byte (k / 8) (k % 8) (omega arith)))
 
   -- 13 and 14 do not come up
-  pub whole_handed : (next : Outcome) → handed_answer our_limit (8 * L) r next ≡ cond (ltb most_bytes L) (Refused LengthOutOfRange) next
+  pub whole_handed : (next : Outcome) → handed_answer our_limit (8 * L) r next ≡ cond (ltb most_bytes L) (Err LengthOutOfRange) next
   unfolding handed_answer record_bytes_answer
   whole_handed next =
       let size : length r ≡ packed_length (8 * L) = omega arith in
       let whole : 8 * L % 8 ≡ 0 = omega arith in
-      ours_stand Outcome Refused (record_bytes_answer (8 * L) r) (8 * L) next
+      ours_stand Outcome Err (record_bytes_answer (8 * L) r) (8 * L) next
       ∙ rw (in_range L, eq-eqb (length r) (packed_length (8 * L)) size, spare_none (8 * L) r whole)
 
 pub whole_bytes : WholeBytes

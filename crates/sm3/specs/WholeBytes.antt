@@ -1,12 +1,12 @@
 -- Records of whole bytes (document 02, request 2: "a whole-byte record gives the rows it gave"). Here stands what document 01 says of
 -- a record of L bytes, in its own unit, and that it is what the definitions give for 8 L bits.
-use Rattle.std.specs.Prelude.{◌≡◌, ℕ, ◌+◌, ◌-◌, ◌*◌, ◌/◌, cond, List, [], ◌∷◌, ◌++◌, length, nat_lt}
+use Rattle.refusal.specs.Refusals.{done}
+use Rattle.std.specs.Prelude.{◌≡◌, ℕ, ◌+◌, ◌-◌, ◌*◌, ◌/◌, cond, List, [], ◌∷◌, ◌++◌, length, nat_lt, Err, Ok}
 use Rattle.encoding.specs.Bits.{bit_of_bytes}
 use Rattle.encoding.specs.Bytes.{highest_first}
 use Rattle.encoding.specs.Sequence.{tab}
 use Rattle.limits.specs.Blocks.{blocks, most_bits}
 use Rattle.limits.specs.Limit.{our_limit}
-use Rattle.refusal.specs.declared.outcome.Outcome.TheVariants.{Done, Refused}
 use Rattle.refusal.specs.declared.outcome.Refusal.TheVariants.{BufferTooShort, LengthOutOfRange}
 use Rattle.sm3.specs.Digest.{digest_answer}
 use Rattle.sm3.specs.Message.{bytes_of, chaining_value, digest_bytes, message}
@@ -34,4 +34,4 @@ pub record WholeBytes : Type 0 where
   -- with our limit: "2. The record length is above 1,015." "4. The buffer to be written is shorter than 32 bytes for a digest"
   pub answer : (r : List ℕ) (room : ℕ)
       → digest_answer our_limit (8 * length r) r room
-      ≡ cond (nat_lt most_bytes (length r)) (Refused LengthOutOfRange) (cond (nat_lt room 32) (Refused BufferTooShort) Done)
+      ≡ cond (nat_lt most_bytes (length r)) (Err LengthOutOfRange) (cond (nat_lt room 32) (Err BufferTooShort) done)

@@ -7,7 +7,7 @@ use crate::message::hash;
 use crate::state::State;
 use encoding::write::put_word;
 use limits::handed::ask_record;
-use refusal::outcome::{Outcome, Refusal};
+use refusal::outcome::Refusal;
 
 // The bytes of a digest.
 const DIGEST_BYTES: usize = 32;
@@ -28,18 +28,16 @@ fn put_digest(out: &mut [u8], s: State)
 }
 
 // The digest of a record of so many bits, and of no more blocks than the limit, into the first 32 bytes of `out`.
-pub fn digest(limit: u64, bits: u64, bytes: &[u8], out: &mut [u8]) -> Outcome
+#[tactic(auto, using(limits::proofs::handed::Asked::handed_stands, limits::proofs::handed::Asked::handed_passed, limits::proofs::handed::Asked::handed_range), unfolding(crate::specs::Message::digest_bytes))]
+pub fn digest(limit: u64, bits: u64, bytes: &[u8], out: &mut [u8]) -> Result<(), Refusal>
     ensures value { result ≡ digest_answer limit bits bytes.now (length out.old) }
     ensures out_after { out.new ≡ digest_left result bits bytes.now out.old }
 {
-    let answer = ask_record(limit, bits, bytes);
-    if let Outcome::Refused(refusal) = answer {
-        return Outcome::Refused(refusal);
-    }
+    ask_record(limit, bits, bytes)?;
     if out.len() < DIGEST_BYTES {
-        return Outcome::Refused(Refusal::BufferTooShort);
+        return Err(Refusal::BufferTooShort);
     }
     let s = hash(bits, bytes);
     put_digest(out, s);
-    Outcome::Done
+    Ok(())
 }

@@ -1,11 +1,12 @@
 -- The packing of a row's answer is injective, as that of refusals is: the low byte tells whether it is a refusal, and each count of a row
 -- has a byte above it.
+use Rattle.forms.specs.declared.terms.Counts.{Counts}
+use Rattle.refusal.specs.declared.outcome.Refusal.{Refusal}
+use Rattle.std.specs.Prelude.{Err, Result}
 use mathlib.Core.List.{[], ◌∷◌}
 use mathlib.Core.Path.{◌≡◌, ◌∙◌, ap, refl, sym}
 use Prim.Native.Nat.{ℕ, ◌/◌, ◌%◌}
 use native.Mathlib.Omega.{arith}
-use Rattle.circuit.specs.declared.given_row.RowAnswer.{RowAnswer}
-use Rattle.circuit.specs.declared.given_row.RowAnswer.TheVariants.{Given, Refused}
 use Rattle.refusal.proofs.Injective.{apart, refusal_injective, refused}
 use Rattle.refusal.specs.Packing.{above}
 use Rattle.sm3rows.specs.Packing.{packed_row}
@@ -25,9 +26,9 @@ given_back a b c v small e =
 low_zero : (a b c : ℕ) → packed_row (Given a b c) % 256 ≡ 0
 low_zero a b c = omega arith
 
-pub row_injective : (a b : RowAnswer) → SmallRow a → SmallRow b → packed_row a ≡ packed_row b → a ≡ b
+pub row_injective : (a b : Result Counts Refusal) → SmallRow a → SmallRow b → packed_row a ≡ packed_row b → a ≡ b
 row_injective (Given a b c) (Given d e f) p q same =
     sym (given_back a b c (packed_row (Given a b c)) p refl) ∙ given_back d e f (packed_row (Given a b c)) q same
-row_injective (Given a b c) (Refused r) p q same = absurd (refused r (ap (λ v. v % 256) (sym same) ∙ low_zero a b c))
-row_injective (Refused r) (Given a b c) p q same = absurd (refused r (ap (λ v. v % 256) same ∙ low_zero a b c))
-row_injective (Refused r) (Refused s) p q same = ap Refused (refusal_injective r s same)
+row_injective (Given a b c) (Err r) p q same = absurd (refused r (ap (λ v. v % 256) (sym same) ∙ low_zero a b c))
+row_injective (Err r) (Given a b c) p q same = absurd (refused r (ap (λ v. v % 256) same ∙ low_zero a b c))
+row_injective (Err r) (Err s) p q same = ap Err (refusal_injective r s same)

@@ -1,5 +1,7 @@
 -- The operations' answers have room in one number. Most refusals have no value. A row that is given is one of the record's, and no row has
 -- over 163 terms; a row or a wire that is named is below the count, and no record that is in range has over 16 blocks.
+use Rattle.refusal.specs.Refusals.{Outcome}
+use Rattle.std.specs.Prelude.{Err}
 use mathlib.Core.Bool.{not}
 use mathlib.Core.List.{List}
 use mathlib.Core.Path.{refl}
@@ -23,7 +25,6 @@ use Rattle.circuit.specs.Ranges.{Allowed}
 use Rattle.circuit.specs.Wires.{wire_count}
 use Rattle.circuit.specs.declared.circuits.Circuit.TheVariants.{Axles, Record}
 use Rattle.circuit.specs.declared.circuits.Circuit.{Circuit}
-use Rattle.circuit.specs.declared.given_row.RowAnswer.TheVariants as row
 use Rattle.forms.specs.Rows.{terms}
 use Rattle.limits.proofs.handed.Asked.{bytes_holds}
 use Rattle.limits.proofs.limit.Decided.{allowed_range, limited-holds}
@@ -36,8 +37,6 @@ use Rattle.record.specs.Produce.{produce_answer}
 use Rattle.record.specs.RowAnswer.{row_answer}
 use Rattle.refusal.proofs.Small.{Small, bare, done_small, room_small, tested}
 use Rattle.refusal.proofs.Tests.{not_iff}
-use Rattle.refusal.specs.declared.outcome.Outcome.TheVariants.{Refused}
-use Rattle.refusal.specs.declared.outcome.Outcome.{Outcome}
 use Rattle.acceptance.proofs.circuit_check.Answers.{check_small}
 use Rattle.sm3.specs.Digest.{digest_answer}
 use Rattle.sm3rows.specs.Small.{SmallRow}
@@ -46,7 +45,7 @@ use Rattle.sm3rows.specs.Small.{SmallRow}
 handed_small : (l n : ℕ) (r : List ℕ) (next : Outcome) → Small next → Small (handed_answer l n r next)
 unfolding handed_answer
 handed_small l n r next small =
-    limited-holds Small Refused (record_bytes_answer n r) next l n (bytes_holds n r Small (bare refl) (bare refl)) (bare refl) (bare refl) (bare refl)
+    limited-holds Small Err (record_bytes_answer n r) next l n (bytes_holds n r Small (bare refl) (bare refl)) (bare refl) (bare refl) (bare refl)
     (λ _. small)
 
 pub digest_small : (l n : ℕ) (r : List ℕ) (room : ℕ) → Small (digest_answer l n r room)
@@ -71,13 +70,13 @@ module _ (C : Circuit) (allowed : Allowed C) (k room : ℕ) where
 pub row_small : (l n k room : ℕ) → SmallRow (row_answer l n k room)
 unfolding row_answer
 row_small l n k room =
-    limited-holds SmallRow row.Refused (λ x. x) _ l n (λ x small. small) (lit< tt) (lit< tt) (lit< tt)
+    limited-holds SmallRow Err (λ x. x) _ l n (λ x small. small) (lit< tt) (lit< tt) (lit< tt)
     (λ allowed. given_small (Record n) (allowed_range allowed) k room)
 
 pub pack_small : (l n : ℕ) (a : List ℕ) (room : ℕ) → Small (pack_answer l n a room)
 unfolding pack_answer length_answer
 pack_small l n a room =
-    limited-holds Small Refused (λ x. x) _ l n (λ x small. small) (bare refl) (bare refl) (bare refl)
+    limited-holds Small Err (λ x. x) _ l n (λ x small. small) (bare refl) (bare refl) (bare refl)
     (λ allowed.
     let few = most_wires_lem (Record n) (allowed_range allowed) in
     pack-holds Small (wire_count (Record n)) a room (bare refl) (bare refl) (λ w below. record { room = omega (arith, below, few) })
@@ -86,7 +85,7 @@ pack_small l n a room =
 pub unpack_small : (l n : ℕ) (p : List ℕ) (room : ℕ) → Small (unpack_answer l n p room)
 unfolding unpack_answer length_answer
 unpack_small l n p room =
-    limited-holds Small Refused (λ x. x) _ l n (λ x small. small) (bare refl) (bare refl) (bare refl)
+    limited-holds Small Err (λ x. x) _ l n (λ x small. small) (bare refl) (bare refl) (bare refl)
     (λ _. unpack-holds Small (wire_count (Record n)) p room (bare refl) (bare refl) (bare refl) done_small)
 
 -- Between two bounds.

@@ -16,18 +16,19 @@ ghost use Rattle.sm3.specs.Digest.{digest_answer, digest_left};
 ghost use Rattle.sm3rows.specs.Packing.{packed_row};
 ghost use Rattle.sm3rows.specs.Small.{SmallRow};
 
-use circuit::given_row::RowAnswer;
+use forms::terms::Counts;
 use refusal::numbers::RowNumber;
+use refusal::outcome::Refusal;
 use refusal::packing::{pack_outcome, pack_refusal};
 
 // The number of a row's answer.
-fn pack_row(answer: RowAnswer) -> u64
+fn pack_row(answer: Result<Counts, Refusal>) -> u64
     requires { SmallRow answer }
     ensures { result ≡ packed_row answer }
 {
     match answer {
-        RowAnswer::Given { a, b, c } => 256 * (a + 256 * (b + 256 * c)),
-        RowAnswer::Refused(refusal) => pack_refusal(refusal),
+        Ok(n) => 256 * (n.a as u64 + 256 * (n.b as u64 + 256 * n.c as u64)),
+        Err(refusal) => pack_refusal(refusal),
     }
 }
 

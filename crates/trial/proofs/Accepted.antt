@@ -1,5 +1,7 @@
 -- What the producer leaves of a record that our limit allows is accepted against what `digest` leaves: demand 3's last sentence,
 -- said of the bytes that the two calls leave.
+use Rattle.refusal.specs.Refusals.{Outcome, done}
+use Rattle.std.specs.Prelude.{Ok}
 use mathlib.Core.List.{List, ◌++◌, append-nil}
 use mathlib.Core.Path.{◌≡◌, ◌∙◌, ap}
 use Prim.Native.Nat.{ℕ, ◌*◌, ◌≤◌}
@@ -14,8 +16,6 @@ use Rattle.record.proofs.Demand3.{demand3}
 use Rattle.record.specs.Check.{check_answer}
 use Rattle.record.specs.Produce.{produce_answer, produce_left}
 use Rattle.circuit.specs.Wires.{wire_count}
-use Rattle.refusal.specs.declared.outcome.Outcome.{Outcome}
-use Rattle.refusal.specs.declared.outcome.Outcome.TheVariants.{Done}
 use Rattle.sm3.specs.Digest.{digest_answer, digest_left}
 use Rattle.sm3.specs.Message.{digest_bytes}
 
@@ -23,7 +23,7 @@ use Rattle.sm3.specs.Message.{digest_bytes}
 digest-left : (n : ℕ) (r before after : List ℕ) (answer : Outcome) → Allows our_limit n → IsRecord n r → length before ≡ 32
     → answer ≡ digest_answer our_limit n r (length before) → after ≡ digest_left answer n r before → after ≡ digest_bytes n r
 digest-left n r before after answer allowed is room e left =
-    let written : digest_answer our_limit n r (length before) ≡ Done =
+    let written : digest_answer our_limit n r (length before) ≡ done =
     handed_passes n r our_limit _ allowed is ∙ rw (le-ltb (length before) 32 (omega arith)) in
     left
     ∙ ap (λ q. digest_left q n r before) (e ∙ written)
@@ -36,7 +36,7 @@ pub produced_accepted : (n : ℕ) (r out before digest left : List ℕ) (end : �
     → made ≡ produce_answer our_limit n r (length out) → left ≡ produce_left made n r out
     → end ≡ 8 * wire_count (Record n)
     → checked ≡ check_answer our_limit n digest (take end left)
-    → checked ≡ Done
+    → checked ≡ done
 produced_accepted n r out before digest left end hashed made checked allowed is room long eh ed em el ee ec =
     ec
     ∙ ap (λ t. check_answer our_limit n t (take end left)) (digest-left n r before digest hashed allowed is long eh ed)

@@ -1,6 +1,6 @@
 // The line that a check prints.
 use console::print;
-use refusal::outcome::{Outcome, Refusal, number_of};
+use refusal::outcome::Refusal;
 use text::decimal::put_decimal;
 
 // A number in decimal.
@@ -18,7 +18,7 @@ fn print_named(rt: &HostRuntime, number: u64) {
 
 // The number of a refusal, and the row or the wire that it names.
 fn print_refusal(rt: &HostRuntime, refusal: Refusal) {
-    print_decimal(rt, number_of(refusal));
+    print_decimal(rt, refusal.number());
     if let Refusal::Unsatisfied(row) = refusal {
         print_named(rt, row.0);
     }
@@ -28,17 +28,17 @@ fn print_refusal(rt: &HostRuntime, refusal: Refusal) {
 }
 
 // The number of an outcome, 0 where nothing is refused.
-fn print_outcome(rt: &HostRuntime, outcome: Outcome) {
+fn print_outcome(rt: &HostRuntime, outcome: Result<(), Refusal>) {
     match outcome {
-        Outcome::Done => {
+        Ok(()) => {
             print_decimal(rt, 0);
         }
-        Outcome::Refused(refusal) => print_refusal(rt, refusal),
+        Err(refusal) => print_refusal(rt, refusal),
     }
 }
 
 // The line of a check: the record's length in bits, what was done, the refusal's number, and the row or the wire where it names one.
-pub fn show(rt: &HostRuntime, bits: u64, what: &[u8], outcome: Outcome) {
+pub fn show(rt: &HostRuntime, bits: u64, what: &[u8], outcome: Result<(), Refusal>) {
     print_decimal(rt, bits);
     print(rt, b",");
     print(rt, what);

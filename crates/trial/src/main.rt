@@ -25,12 +25,12 @@
 // A local array has the 2,887,688 bytes of the longest assignment: the program needs 3 megabytes of stack.
 #![tactic(auto)]
 
+ghost use Rattle.refusal.specs.Refusals.{done};
 ghost use Rattle.std.specs.Prelude.{◌≡◌, ◌*◌, ◌≤◌, length};
 ghost use Rattle.circuit.specs.Wires.{wire_count};
 ghost use Rattle.circuit.specs.declared.circuits.Circuit.TheVariants.{Record};
 ghost use Rattle.encoding.specs.Packed.{packed_length, spare_bits};
 ghost use Rattle.limits.specs.Blocks.{most_bits};
-ghost use Rattle.refusal.specs.declared.outcome.Outcome.TheVariants.{Done};
 
 mod changes;
 mod line;
@@ -45,14 +45,14 @@ use limits::limit::OUR_LIMIT;
 use record::check::check;
 use record::produce::produce;
 use record::space::assignment_space;
-use refusal::outcome::Outcome;
+use refusal::outcome::Refusal;
 use sample::counted;
 use sm3::digest::digest;
 
 // The digest of a record of so many bits and its assignment, and the check of the one against the other.
-fn produce_and_check(bits: u64, bytes: &[u8], sum: &mut [u8], out: &mut [u8]) -> Outcome
+fn produce_and_check(bits: u64, bytes: &[u8], sum: &mut [u8], out: &mut [u8]) -> Result<(), Refusal>
     requires { (bits ≤ most_bits) × (length bytes.now ≡ packed_length bits) × (spare_bits bits bytes.now ≡ 0) × (length sum.old ≡ 32) × (8 * wire_count (Record bits) ≤ length out.old) }
-    ensures { result ≡ Done }
+    ensures { result ≡ done }
 {
     digest(OUR_LIMIT, bits, bytes, sum);
     produce(OUR_LIMIT, bits, bytes, out);
@@ -81,8 +81,8 @@ fn try_handed(rt: &HostRuntime, bits: u64, bytes: &[u8], room: &mut [u8])
 {
     let answer = ask_record(OUR_LIMIT, bits, bytes);
     match answer {
-        Outcome::Done => try_record(rt, bits, bytes, room),
-        Outcome::Refused(refusal) => show(rt, bits, b"handed", Outcome::Refused(refusal)),
+        Ok(()) => try_record(rt, bits, bytes, room),
+        Err(refusal) => show(rt, bits, b"handed", Err(refusal)),
     }
 }
 

@@ -1,5 +1,7 @@
 -- The answers that the check could give. They have room in one number: a wire or a row that is named is below the count, and no circuit that
 -- is allowed has that many.
+use Rattle.refusal.specs.Refusals.{Outcome, done}
+use Rattle.std.specs.Prelude.{Err, Ok, None}
 use mathlib.Core.Bool.{not}
 use mathlib.Core.List.{List}
 use mathlib.Core.Path.{refl}
@@ -18,16 +20,13 @@ use Rattle.encoding.proofs.Lowest.{by_lowest}
 use Rattle.encoding.specs.Bits.{bit_of_bytes}
 use Rattle.acceptance.specs.Check.{after_rows, circuit_check, same}
 use Rattle.refusal.proofs.Small.{Small, bare, done_small, tested}
-use Rattle.refusal.specs.declared.outcome.Outcome.TheVariants.{Done, Refused}
-use Rattle.refusal.specs.declared.outcome.Outcome.{Outcome}
 use Rattle.refusal.specs.declared.outcome.Refusal.TheVariants.{DigestNot32, DigestWire, EntryNotBelowPrime, Unsatisfied, WireZero, WrongLength}
 use Rattle.satisfaction.specs.Lowest.{lowest}
-use Rattle.satisfaction.specs.declared.rows_check.Verdict.TheVariants.{AllSatisfied}
 
 -- what holds of all answers that the check could give holds of its answer
 pub check-holds : (P : Outcome → Type 0) (C : Circuit) (d a : List ℕ)
-    → P (Refused DigestNot32) → P (Refused WrongLength) → ((w : ℕ) → w < wire_count C → P (Refused (EntryNotBelowPrime (record { 0 = w }))))
-    → P (Refused WireZero) → P (Refused DigestWire) → ((k : ℕ) → k < row_count C → P (Refused (Unsatisfied (record { 0 = k })))) → P Done
+    → P (Err DigestNot32) → P (Err WrongLength) → ((w : ℕ) → w < wire_count C → P (Err (EntryNotBelowPrime (record { 0 = w }))))
+    → P (Err WireZero) → P (Err DigestWire) → ((k : ℕ) → k < row_count C → P (Err (Unsatisfied (record { 0 = k })))) → P done
     → P (circuit_check C d a)
 unfolding circuit_check lowest
 check-holds P C d a digest long below one wires rows done =
@@ -40,7 +39,7 @@ check-holds P C d a digest long below one wires rows done =
     (λ _.
     tested P (not (same 256 (λ k. entry a (1 + k)) (bit_of_bytes d))) wires
     (λ _.
-    by_lowest _ _ (λ v. P (after_rows v)) AllSatisfied 0 (row_count C) (λ _. done) (λ k low. rows k (omega (arith, low.below))))))))
+    by_lowest _ _ (λ v. P (after_rows v)) None 0 (row_count C) (λ _. done) (λ k low. rows k (omega (arith, low.below))))))))
 
 pub check_small : (C : Circuit) (d a : List ℕ) → Allowed C → Small (circuit_check C d a)
 check_small C d a allowed =

@@ -1,5 +1,7 @@
 -- The answers of the check, one by one: each test of the definition is passed or decides. Two sequences that differ at a place
 -- are not the same.
+use Rattle.refusal.specs.Refusals.{done}
+use Rattle.std.specs.Prelude.{Err, Ok}
 use mathlib.Core.Bool.{Bool, cond, false, not, true}
 use mathlib.Core.List.{List}
 use mathlib.Core.Path.{◌≡◌, refl}
@@ -16,7 +18,6 @@ use Rattle.circuit.specs.declared.circuits.Circuit.{Circuit}
 use Rattle.encoding.specs.Bits.{bit_of_bytes}
 use Rattle.acceptance.proofs.Acceptance.{same_iff}
 use Rattle.acceptance.specs.Check.{after_rows, circuit_check, same}
-use Rattle.refusal.specs.declared.outcome.Outcome.TheVariants.{Done, Refused}
 use Rattle.refusal.specs.declared.outcome.Refusal.TheVariants.{DigestNot32, DigestWire, WireZero, WrongLength}
 use Rattle.refusal.specs.declared.outcome.Refusal.{Refusal}
 use Rattle.satisfaction.specs.Lowest.{lowest}
@@ -29,24 +30,24 @@ differs n f g k l h = go (same n f g) refl
     go false e = refl
 
 module _ (C : Circuit) (d a : List ℕ) where
-  pub refusal_5 : (length d ≡ 32 → ⊥) → circuit_check C d a ≡ Refused DigestNot32
+  pub refusal_5 : (length d ≡ 32 → ⊥) → circuit_check C d a ≡ Err DigestNot32
   unfolding circuit_check
   refusal_5 h = rw (ne_eqb (length d) 32 h)
 
   module _ (digest : length d ≡ 32) where
-    pub refusal_6 : (length a ≡ 8 * wire_count C → ⊥) → circuit_check C d a ≡ Refused WrongLength
+    pub refusal_6 : (length a ≡ 8 * wire_count C → ⊥) → circuit_check C d a ≡ Err WrongLength
     unfolding circuit_check
     refusal_6 h = rw (eq-eqb (length d) 32 digest, ne_eqb (length a) (8 * wire_count C) h)
 
     module _ (entries : length a ≡ 8 * wire_count C) where
-      pub refusal_20 : (r : Refusal) → below_prime_answer (wire_count C) a Done ≡ Refused r → circuit_check C d a ≡ Refused r
+      pub refusal_20 : (r : Refusal) → below_prime_answer (wire_count C) a done ≡ Err r → circuit_check C d a ≡ Err r
       unfolding circuit_check
       refusal_20 r h =
           rw (eq-eqb (length d) 32 digest, eq-eqb (length a) (8 * wire_count C) entries) ((limit_before _ _ (wire_count C) a).stands r _ h)
 
       -- past refusal 20
-      module _ (below : below_prime_answer (wire_count C) a Done ≡ Done) where
-        pub refusal_7 : (entry a 0 ≡ 1 → ⊥) → circuit_check C d a ≡ Refused WireZero
+      module _ (below : below_prime_answer (wire_count C) a done ≡ done) where
+        pub refusal_7 : (entry a 0 ≡ 1 → ⊥) → circuit_check C d a ≡ Err WireZero
         unfolding circuit_check
         refusal_7 h =
             rw (eq-eqb (length d) 32 digest, eq-eqb (length a) (8 * wire_count C) entries, ne_eqb (entry a 0) 1 h)
@@ -55,7 +56,7 @@ module _ (C : Circuit) (d a : List ℕ) where
         -- past refusal 7
         module _ (one : entry a 0 ≡ 1) (wires : Bool) (e : same 256 (λ k. entry a (1 + k)) (bit_of_bytes d) ≡ wires) where
           pub from-wires : circuit_check C d a
-              ≡ cond (not wires) (Refused DigestWire) (after_rows (lowest (entry a) (row_at C) 0 (row_count C)))
+              ≡ cond (not wires) (Err DigestWire) (after_rows (lowest (entry a) (row_at C) 0 (row_count C)))
           unfolding circuit_check
           from-wires =
               rw (eq-eqb (length d) 32 digest, eq-eqb (length a) (8 * wire_count C) entries, eq-eqb (entry a 0) 1 one, e)

@@ -1,4 +1,5 @@
 -- The answer by its cases, test by test, and what a row that is given leaves in the buffer.
+use Rattle.std.specs.Prelude.{Err, Ok}
 use mathlib.Core.List.{List, ◌++◌}
 use mathlib.Core.Path.{◌≡◌, sym}
 use Prim.Native.Nat.{ℕ, ◌+◌, ◌*◌, ◌<◌, ◌≤◌}
@@ -9,7 +10,6 @@ use Rattle.circuit.specs.Circuit.{row_at}
 use Rattle.circuit.specs.GivenRow.{counted, given_row, row_bytes}
 use Rattle.circuit.specs.Places.{row_count}
 use Rattle.circuit.specs.declared.circuits.Circuit.{Circuit}
-use Rattle.circuit.specs.declared.given_row.RowAnswer.TheVariants.{Given, Refused}
 use Rattle.encoding.proofs.Written.{written-front}
 use Rattle.encoding.specs.Written.{Written}
 use Rattle.forms.proofs.term_bytes.TermBytes.{length-terms}
@@ -22,11 +22,11 @@ use Rattle.forms.specs.declared.terms.Counts.{Counts}
 use Rattle.refusal.specs.declared.outcome.Refusal.TheVariants.{BufferTooShort, RowOutOfRange}
 
 module _ (C : Circuit) (k room : ℕ) where
-  pub row_outside : row_count C ≤ k → Refused RowOutOfRange ≡ given_row C k room
+  pub row_outside : row_count C ≤ k → Err RowOutOfRange ≡ given_row C k room
   unfolding given_row
   row_outside h = sym (rw (le-leb (row_count C) k h))
 
-  pub room_short : k < row_count C → room < row_bytes → Refused BufferTooShort ≡ given_row C k room
+  pub room_short : k < row_count C → room < row_bytes → Err BufferTooShort ≡ given_row C k room
   unfolding given_row
   room_short h i = sym (rw (lt-leb (row_count C) k h, lt-ltb room row_bytes i))
 
@@ -35,7 +35,7 @@ module _ (C : Circuit) (k room : ℕ) where
   row-given h i = sym (rw (lt-leb (row_count C) k h, le-ltb room row_bytes i))
 
 module _ {r : Row} {n : Counts} {l m : List ℕ} (h : Filled r n l m) where
-  pub filled-counted : Given n.a n.b n.c ≡ counted r
+  pub filled-counted : Ok n ≡ counted r
   unfolding counted
   filled-counted = cc (h.a, h.b, h.c)
 

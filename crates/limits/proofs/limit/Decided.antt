@@ -1,5 +1,6 @@
 -- What a limit says of a length, by cases: it is outside its range; the length is; the length needs more blocks than the limit; or it is
 -- allowed. A length in range has at most sixteen blocks, and so many bits in blocks of at most a limit are in range.
+use Rattle.std.specs.Prelude.{Err, Ok, Result}
 use mathlib.Core.Logic.{by_cases}
 use mathlib.Core.Path.{◌≡◌, ◌∙◌, ap, subst, sym}
 use Prim.Native.Nat.{ℕ, ◌<◌, ◌≤◌}
@@ -9,16 +10,15 @@ use borrow.Author.Tests.{le-ltb, lt-ltb}
 use Rattle.limits.specs.Blocks.{blocks, most_bits}
 use Rattle.limits.specs.Limit.{Allows, IsLimit, allowance, limited, our_limit}
 use Rattle.limits.specs.declared.limit.Allowance.TheVariants.{Beyond, Within}
-use Rattle.limits.specs.declared.limit.Allowance.TheVariants as allow
 use Rattle.limits.specs.declared.limit.Allowance.{Allowance}
 use Rattle.refusal.specs.declared.outcome.Refusal.TheVariants.{BlocksAboveLimit, LengthOutOfRange, LimitOutOfRange}
 use Rattle.refusal.specs.declared.outcome.Refusal.{Refusal}
 
 -- tells the three apart
-abbrev place : Allowance → ℕ
-place Within = 0
-place Beyond = 1
-place (allow.Refused r) = 2
+abbrev place : Result Allowance Refusal → ℕ
+place (Ok Within) = 0
+place (Ok Beyond) = 1
+place (Err r) = 2
 
 apart : {x j k : ℕ} → x ≡ j → x ≡ k → (j ≡ k → ⊥) → ⊥
 apart p q differ = differ (sym p ∙ q)
@@ -47,7 +47,7 @@ module _ (l n : ℕ) where
       by_cases (dec_lt l (blocks n)) (beyond is (omega (arith, range)))
       (λ fits. within (record { limit = is; fits = omega (arith, fits) })))))
 
-  pub outside_limit : (IsLimit l → ⊥) → allowance l n ≡ allow.Refused LimitOutOfRange
+  pub outside_limit : (IsLimit l → ⊥) → allowance l n ≡ Err LimitOutOfRange
   unfolding allowance
   outside_limit wrong =
       by_cases (dec_lt l 1) (λ none. rw (lt-ltb l 1 none))
@@ -57,36 +57,41 @@ module _ (l n : ℕ) where
       (λ few. absurd (wrong (least, omega (arith, few)))))
 
   module _ (is : IsLimit l) where
-    pub too_long : most_bits < n → allowance l n ≡ allow.Refused LengthOutOfRange
+    pub too_long : most_bits < n → allowance l n ≡ Err LengthOutOfRange
     unfolding allowance
     too_long above = rw (le-ltb l 1 is.0, le-ltb our_limit l is.1, lt-ltb most_bits n above)
 
-    pub beyond_limit : n ≤ most_bits → l < blocks n → allowance l n ≡ Beyond
+    pub beyond_limit : n ≤ most_bits → l < blocks n → allowance l n ≡ Ok Beyond
     unfolding allowance
     beyond_limit range above = rw (le-ltb l 1 is.0, le-ltb our_limit l is.1, le-ltb most_bits n range, lt-ltb l (blocks n) above)
 
-  pub within_limit : Allows l n → allowance l n ≡ Within
+  pub within_limit : Allows l n → allowance l n ≡ Ok Within
   unfolding allowance
   within_limit a =
       rw (le-ltb l 1 a.limit.0, le-ltb our_limit l a.limit.1, le-ltb most_bits n (allowed_range a), le-ltb l (blocks n) a.fits)
 
   -- and back, for the two that are no refusal
-  pub within-allows : allowance l n ≡ Within → Allows l n
+  pub within-allows : allowance l n ≡ Ok Within → Allows l n
   within-allows e =
       limit_cases (λ wrong. absurd (apart (ap place e) (ap place (outside_limit wrong)) (omega arith)))
       (λ is above. absurd (apart (ap place e) (ap place (too_long is above)) (omega arith)))
       (λ is range above. absurd (apart (ap place e) (ap place (beyond_limit is range above)) (omega arith)))
       (λ a. a)
 
-  pub beyond_range : allowance l n ≡ Beyond → n ≤ most_bits
+  pub beyond_range : allowance l n ≡ Ok Beyond → n ≤ most_bits
   beyond_range e =
       limit_cases (λ wrong. absurd (apart (ap place e) (ap place (outside_limit wrong)) (omega arith)))
       (λ is above. absurd (apart (ap place e) (ap place (too_long is above)) (omega arith)))
       (λ is range above. range) allowed_range
 
+  -- a length that is no refusal is in range
+  pub in_range : (a : Allowance) → allowance l n ≡ Ok a → n ≤ most_bits
+  in_range Within e = allowed_range (within-allows e)
+  in_range Beyond e = beyond_range e
+
 -- What holds of all answers that there could be, and goes on to hold past what is asked of record bytes, holds of the answer.
 module _ {A : Type 0} (P : A → Type 0) (refused : Refusal → A) (asked : A → A) (next : A) (l n : ℕ) where
-  given : (t : Allowance) → allowance l n ≡ t → P (limited refused asked t next) → P (limited refused asked (allowance l n) next)
+  given : (t : Result Allowance Refusal) → allowance l n ≡ t → P (limited refused asked t next) → P (limited refused asked (allowance l n) next)
   given t e holds = subst (λ t. P (limited refused asked t next)) (sym e) holds
 
   pub limited-holds : ((x : A) → P x → P (asked x)) → P (refused LimitOutOfRange) → P (refused LengthOutOfRange) → P (refused BlocksAboveLimit)

@@ -1,5 +1,8 @@
 -- Refusals 20 and 10 of the first n entries. Both answer with the lowest entry that is not below a limit, and what is below 2 is below
 -- the prime: so neither refuses exactly where all entries are bits.
+use Rattle.refusal.specs.declared.numbers.WireNumber.{WireNumber}
+use Rattle.refusal.specs.Refusals.{done}
+use Rattle.std.specs.Prelude.{Ok, None, Option}
 use mathlib.Core.List.{List}
 use mathlib.Core.Logic.{◌↔◌}
 use mathlib.Core.Path.{◌≡◌, ◌∙◌, ap, refl, sym}
@@ -9,27 +12,24 @@ use Rattle.assignment.proofs.EntriesBelow.{limit_past, refused_by-lowest, refuse
 use Rattle.assignment.specs.Assignment.{entry}
 use Rattle.assignment.specs.BelowPrime.{below_prime_answer}
 use Rattle.assignment.specs.Bounded.{lowest_not_below}
-use Rattle.assignment.specs.declared.bounded.Lowest.TheVariants.{AllBelow}
-use Rattle.assignment.specs.declared.bounded.Lowest.{Lowest}
 use Rattle.packing.specs.Pack.{bits_answer}
 use Rattle.refusal.proofs.Tests.{refused_done}
-use Rattle.refusal.specs.declared.outcome.Outcome.TheVariants.{Done}
 use Rattle.refusal.specs.declared.outcome.Refusal.TheVariants.{EntryNotBelowPrime, EntryNotBit}
 
 module _ (n : ℕ) (a : List ℕ) where
-  bits_done : (bits_answer n a ≡ Done) ↔ (((w : ℕ) → w < n → entry a w < 2) × (Done ≡ Done))
-  bits_done = limit_past EntryNotBit 2 n a Done Done (λ w. refused_done _)
+  bits_done : (bits_answer n a ≡ done) ↔ (((w : ℕ) → w < n → entry a w < 2) × (done ≡ done))
+  bits_done = limit_past EntryNotBit 2 n a done done (λ w. refused_done _)
 
-  pub asked_done : (below_prime_answer n a (bits_answer n a) ≡ Done) ↔ ((w : ℕ) → w < n → entry a w < 2)
+  pub asked_done : (below_prime_answer n a (bits_answer n a) ≡ done) ↔ ((w : ℕ) → w < n → entry a w < 2)
   asked_done =
-      let past = limit_past EntryNotBelowPrime _ n a (bits_answer n a) Done (λ w. refused_done _) in (
+      let past = limit_past EntryNotBelowPrime _ n a (bits_answer n a) done (λ w. refused_done _) in (
         λ e. (bits_done.0 (past.0 e).1).0,
         λ bits. past.1 (λ w l. omega (arith, bits w l), bits_done.1 (bits, refl)),
       )
 
   -- refusal 10 by the lowest entry that is no bit, and neither refusal where there is none
-  pub bits_by_lowest : (lowest : Lowest) → lowest_not_below 2 a 0 n ≡ lowest → bits_answer n a ≡ refused_by EntryNotBit lowest
+  pub bits_by_lowest : (lowest : Option WireNumber) → lowest_not_below 2 a 0 n ≡ lowest → bits_answer n a ≡ refused_by EntryNotBit lowest
   bits_by_lowest lowest e = sym (refused_by-lowest EntryNotBit 2 n a) ∙ ap (refused_by EntryNotBit) e
 
-  pub asked-none : lowest_not_below 2 a 0 n ≡ AllBelow → below_prime_answer n a (bits_answer n a) ≡ Done
-  asked-none e = asked_done.1 (bits_done.0 (bits_by_lowest AllBelow e)).0
+  pub asked-none : lowest_not_below 2 a 0 n ≡ None → below_prime_answer n a (bits_answer n a) ≡ done
+  asked-none e = asked_done.1 (bits_done.0 (bits_by_lowest None e)).0

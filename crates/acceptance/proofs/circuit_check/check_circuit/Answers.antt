@@ -1,4 +1,6 @@
 -- Each answer is that of the definition, whose tests are the code's.
+use Rattle.refusal.specs.Refusals.{Outcome, done}
+use Rattle.std.specs.Prelude.{Ok}
 use mathlib.Core.Bool.{false, true}
 use mathlib.Core.List.{List}
 use mathlib.Core.Path.{◌≡◌, ◌∙◌, ap, sym}
@@ -7,13 +9,11 @@ use Rattle.assignment.proofs.EntriesBelow.{below_done}
 use Rattle.assignment.specs.BelowPrime.{below_prime_answer}
 use Rattle.acceptance.proofs.circuit_check.Refusals.{from-wires, refusal_20, refusal_5, refusal_6, refusal_7}
 use Rattle.acceptance.specs.Check.{after_rows}
-use Rattle.refusal.specs.declared.outcome.Outcome.TheVariants.{Done}
-use Rattle.refusal.specs.declared.outcome.Outcome.{Outcome}
 use Rattle.acceptance.proofs.circuit_check.check_circuit.Goals as goal
 
 -- what refusal 20's test says of the entries that were counted
-of_count : {n m : ℕ} {x y : Outcome} (a : List ℕ) → n ≡ m → x ≡ below_prime_answer n a Done → x ≡ y → below_prime_answer m a Done ≡ y
-of_count a count told is = ap (λ n. below_prime_answer n a Done) (sym count) ∙ sym told ∙ is
+of_count : {n m : ℕ} {x y : Outcome} (a : List ℕ) → n ≡ m → x ≡ below_prime_answer n a done → x ≡ y → below_prime_answer m a done ≡ y
+of_count a count told is = ap (λ n. below_prime_answer n a done) (sym count) ∙ sym told ∙ is
 
 pub returns-then-digest-ne32 : goal.returns-then-digest-ne32
 returns-then-digest-ne32 c =

@@ -1,9 +1,9 @@
 -- The eight words that are read are A to H, by their number.
+use Rattle.std.specs.Prelude.{Some, None}
 use Rattle.std.proofs.Common.{◌≡◌, ℕ, ◌+◌, ◌*◌, List, get_or, sym, subst, arith}
 use Rattle.encoding.proofs.Tab.{get_or-tab}
 use Rattle.encoding.specs.Sequence.{tab}
 use Rattle.agreement.specs.Agrees.{BitsOf, BitsOfState, BitsOfWords}
-use Rattle.agreement.specs.declared.word_read.StateRead.TheVariants.{NotBits, Words}
 use Rattle.sm3.specs.Sm3.{word_of}
 use Rattle.sm3.specs.declared.state.State.{State}
 use Rattle.agreement.proofs.word_read.read_state.Goals as goal
@@ -22,7 +22,7 @@ eight x =
       h = get_or x 7 0;
     }
 
-eight-read : {w : ℕ} {x bytes : List ℕ} (s : State) → Words (eight x) ≡ Words s → BitsOfWords w 8 x bytes → BitsOfState w s bytes
+eight-read : {w : ℕ} {x bytes : List ℕ} (s : State) → Some (eight x) ≡ Some s → BitsOfWords w 8 x bytes → BitsOfState w s bytes
 unfolding tab word_of
 eight-read {w} {x} {bytes} s e h =
     let same : eight x ≡ s = cc in
@@ -32,7 +32,7 @@ eight-read {w} {x} {bytes} s e h =
           λ k l. subst (λ y. BitsOf (w + 32 * k) 32 y bytes) (sym (get_or-tab 8 (λ k. get_or x k 0) k 0 l)) (h.each k l);
     })
 
-not_words : (s : State) → NotBits ≡ Words s → ⊥
+not_words : (s : State) → None ≡ Some s → ⊥
 not_words s e =
     let z : ◌≡◌ {A = ℕ} 0 1 = cc in
     omega arith

@@ -1,4 +1,6 @@
 -- Each refusal is one case of the answer, told by the tests before it; past them all wires are written from the buffer's front on.
+use Rattle.refusal.specs.Refusals.{done}
+use Rattle.std.specs.Prelude.{Ok}
 use mathlib.Core.Bool.{true}
 use mathlib.Core.List.{List}
 use mathlib.Core.Path.{◌≡◌, ◌∙◌, refl, sym}
@@ -17,11 +19,10 @@ use Rattle.circuit.specs.declared.circuits.Circuit.TheVariants.{Axles}
 use Rattle.limits.proofs.handed.Asked.{handed_done, handed_tests}
 use Rattle.limits.specs.Handed.{handed_answer}
 use Rattle.limits.specs.Limit.{partner_limit}
-use Rattle.refusal.specs.declared.outcome.Outcome.TheVariants.{Done}
 use Rattle.axles.proofs.produce.produce.Goals as goal
 
 -- a record that passes the tests of its bytes has 63 of them
-size : (bytes : List ℕ) → handed_answer partner_limit axle_bits bytes Done ≡ Done → length bytes ≡ 63
+size : (bytes : List ℕ) → handed_answer partner_limit axle_bits bytes done ≡ done → length bytes ≡ 63
 size bytes handed = ((handed_done axle_bits bytes partner_limit).0 handed).1.0
 
 pub returns-in-Refused : goal.returns-in-Refused

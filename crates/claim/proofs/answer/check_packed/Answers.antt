@@ -1,4 +1,6 @@
 -- What unpacking refuses is refused; else the front of the room has the entries, and document 01's check answers.
+use Rattle.refusal.specs.Refusals.{done}
+use Rattle.std.specs.Prelude.{Ok}
 use mathlib.Core.List.{List}
 use mathlib.Core.Path.{◌≡◌, ◌∙◌, ap, sym}
 use Prim.Native.Nat.{ℕ, ◌*◌, ◌≤◌}
@@ -11,11 +13,10 @@ use Rattle.limits.specs.Limit.{our_limit}
 use Rattle.packing.proofs.Answers.{check-refused, check_unpacked, unpack_done}
 use Rattle.packing.specs.Unpack.{unpack_answer}
 use Rattle.record.specs.Check.{check_answer}
-use Rattle.refusal.specs.declared.outcome.Outcome.TheVariants.{Done}
 use Rattle.claim.proofs.answer.check_packed.Goals as goal
 
 -- past unpacking the length is in range
-range-done : (n : ℕ) (p : List ℕ) (room : ℕ) → unpack_answer our_limit n p room ≡ Done → n ≤ most_bits
+range-done : (n : ℕ) (p : List ℕ) (room : ℕ) → unpack_answer our_limit n p room ≡ done → n ≤ most_bits
 range-done n p room done = (allowed_range ((unpack_done our_limit n p room).0 done).0)
 
 pub returns-in-Refused : goal.returns-in-Refused

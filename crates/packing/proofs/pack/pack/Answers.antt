@@ -1,4 +1,6 @@
 -- The tests are the refusals in their order; past them all wires are bits, and they are packed from the buffer's front on.
+use Rattle.refusal.specs.Refusals.{done}
+use Rattle.std.specs.Prelude.{Ok}
 use mathlib.Core.List.{List}
 use mathlib.Core.Path.{◌≡◌, ◌∙◌, ap, refl, sym}
 use Prim.Native.Nat.{ℕ, ◌*◌, ◌<◌, ◌≤◌}
@@ -18,11 +20,10 @@ use Rattle.limits.specs.Limit.{length_answer}
 use Rattle.packing.proofs.WordBytes.{one_over}
 use Rattle.packing.proofs.pack.EntriesAsked.{asked_done}
 use Rattle.packing.specs.Pack.{bits_answer, pack_answer}
-use Rattle.refusal.specs.declared.outcome.Outcome.TheVariants.{Done}
 use Rattle.packing.proofs.pack.pack.Goals as goal
 
 -- past the tests of the lengths, what the m entries are answered is the answer
-entries_decide : (l n m room : ℕ) (a : List ℕ) → m ≡ wire_count (Record n) → length_answer l n Done ≡ Done → packed_length m ≤ room → length a ≡ 8 * m
+entries_decide : (l n m room : ℕ) (a : List ℕ) → m ≡ wire_count (Record n) → length_answer l n done ≡ done → packed_length m ≤ room → length a ≡ 8 * m
     → below_prime_answer m a (bits_answer m a) ≡ pack_answer l n a room
 unfolding pack_answer
 entries_decide l n m room a counted allowed enough long =
@@ -42,7 +43,7 @@ pub returns-then-out-room : goal.returns-then-out-room
 unfolding pack_answer
 returns-then-out-room c =
     let a = c.args in
-    let allowed : length_answer a.limit a.bits Done ≡ Done = sym c.ask_length-allowed.ensures ∙ c.in_default.is in
+    let allowed : length_answer a.limit a.bits done ≡ done = sym c.ask_length-allowed.ensures ∙ c.in_default.is in
     let short : length a.out.now < packed_length (wire_count (Record a.bits)) = omega arith in
     record {
       value = sym ((length_before _ _).passed _ allowed ∙ simp (lt-ltb _ _ short));
@@ -54,7 +55,7 @@ unfolding pack_answer
 returns-then-assignment-bytes c =
     let counted = c.wire_count-wires.ensures.0 in
     let a = c.args in
-    let allowed : length_answer a.limit a.bits Done ≡ Done = sym c.ask_length-allowed.ensures ∙ c.in_default.is in
+    let allowed : length_answer a.limit a.bits done ≡ done = sym c.ask_length-allowed.ensures ∙ c.in_default.is in
     let room : packed_length (wire_count (Record a.bits)) ≤ length a.out.now = omega arith in
     let wrong : length a.assignment.now ≡ 8 * wire_count (Record a.bits) → ⊥ =
     λ e. c.if-assignment-bytes.true (e ∙ ap (λ m. 8 * m) (sym counted)) in
@@ -66,7 +67,7 @@ returns-then-assignment-bytes c =
 pub returns-in-Refused-asked : goal.returns-in-Refused-asked
 returns-in-Refused-asked c =
     let a = c.args in
-    let allowed : length_answer a.limit a.bits Done ≡ Done = sym c.ask_length-allowed.ensures ∙ c.in_default.is in
+    let allowed : length_answer a.limit a.bits done ≡ done = sym c.ask_length-allowed.ensures ∙ c.in_default.is in
     record {
       value = sym c.in-Refused-asked.is
           ∙ c.entries_asked-asked.ensures
@@ -86,7 +87,7 @@ put_packed-requires c =
 pub returns : goal.returns
 returns c =
     let a = c.args in
-    let allowed : length_answer a.limit a.bits Done ≡ Done = sym c.ask_length-allowed.ensures ∙ c.in_default.is in
+    let allowed : length_answer a.limit a.bits done ≡ done = sym c.ask_length-allowed.ensures ∙ c.in_default.is in
     let wires : ℕ = wire_count (Record a.bits) in
     record {
       value = sym c.in_default-asked.is

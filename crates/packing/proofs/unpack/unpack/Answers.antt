@@ -1,4 +1,6 @@
 -- The tests are the refusals in their order; past them the words' entries are written, and behind them the last one.
+use Rattle.refusal.specs.Refusals.{done}
+use Rattle.std.specs.Prelude.{Ok}
 use mathlib.Core.Path.{◌≡◌, ◌∙◌, ap, refl, subst, sym}
 use Prim.Native.Nat.{ℕ, ◌+◌, ◌-◌, ◌*◌, ◌/◌, ◌%◌, ◌<◌, ◌≤◌}
 use native.Mathlib.Omega.{arith}
@@ -16,7 +18,6 @@ use Rattle.limits.specs.Limit.{length_answer}
 use Rattle.packing.proofs.WordBytes.{one_over}
 use Rattle.packing.specs.Packed.{unpacked_bytes}
 use Rattle.packing.specs.Unpack.{packed_answer, unpack_answer}
-use Rattle.refusal.specs.declared.outcome.Outcome.TheVariants.{Done}
 use Rattle.packing.proofs.unpack.unpack.Goals as goal
 
 pub returns-in-Refused : goal.returns-in-Refused
@@ -33,7 +34,7 @@ pub returns-then-out-wires : goal.returns-then-out-wires
 unfolding unpack_answer
 returns-then-out-wires c =
     let a = c.args in
-    let allowed : length_answer a.limit a.bits Done ≡ Done = sym c.ask_length-allowed.ensures ∙ c.in_default.is in
+    let allowed : length_answer a.limit a.bits done ≡ done = sym c.ask_length-allowed.ensures ∙ c.in_default.is in
     let short : length a.out.now < 8 * wire_count (Record a.bits) = omega arith in
     record {
       value = sym ((length_before _ _).passed _ allowed ∙ simp (lt-ltb _ _ short));
@@ -45,7 +46,7 @@ unfolding unpack_answer packed_answer
 returns-then-packed-packed_length c =
     let counted = c.wire_count-wires.ensures.0 in
     let a = c.args in
-    let allowed : length_answer a.limit a.bits Done ≡ Done = sym c.ask_length-allowed.ensures ∙ c.in_default.is in
+    let allowed : length_answer a.limit a.bits done ≡ done = sym c.ask_length-allowed.ensures ∙ c.in_default.is in
     let room : 8 * wire_count (Record a.bits) ≤ length a.out.now = omega arith in
     let wrong : length a.packed.now ≡ packed_length (wire_count (Record a.bits)) → ⊥ =
     λ e. c.if-packed-packed_length.true (e ∙ ap packed_length (sym counted) ∙ sym c.packed_length.ensures) in
@@ -62,7 +63,7 @@ unfolding unpack_answer packed_answer
 returns-then-spare_bits-ne0 c =
     let counted = c.wire_count-wires.ensures.0 in
     let a = c.args in
-    let allowed : length_answer a.limit a.bits Done ≡ Done = sym c.ask_length-allowed.ensures ∙ c.in_default.is in
+    let allowed : length_answer a.limit a.bits done ≡ done = sym c.ask_length-allowed.ensures ∙ c.in_default.is in
     let wires : ℕ = wire_count (Record a.bits) in
     let room : 8 * wires ≤ length a.out.now = omega arith in
     let long : length a.packed.now ≡ packed_length wires =
@@ -80,7 +81,7 @@ returns c =
     let counted = c.wire_count-wires.ensures.0 in
     let a = c.args in
     let p = a.packed.now in
-    let allowed : length_answer a.limit a.bits Done ≡ Done = sym c.ask_length-allowed.ensures ∙ c.in_default.is in
+    let allowed : length_answer a.limit a.bits done ≡ done = sym c.ask_length-allowed.ensures ∙ c.in_default.is in
     let wires : ℕ = wire_count (Record a.bits) in
     let over : wires % 64 ≡ 1 = one_over a.bits in
     let room : 8 * wires ≤ length a.out.now = omega arith in

@@ -1,4 +1,6 @@
 -- The tests are the refusals in their order, asked of the line that would be written; past them it is written at the buffer's front.
+use Rattle.refusal.specs.Refusals.{Outcome, done}
+use Rattle.std.specs.Prelude.{Err, Ok}
 use mathlib.Core.Bool.{cond}
 use mathlib.Core.List.{List}
 use mathlib.Core.Path.{◌≡◌, ◌∙◌, refl, sym}
@@ -18,14 +20,12 @@ use Rattle.passage.specs.Read.{bytes_answer, next}
 use Rattle.passage.specs.Runs.{lowest_from}
 use Rattle.passage.specs.Write.{line_of, write_answer}
 use Rattle.passage.specs.declared.numbers.Numbers.{Numbers}
-use Rattle.refusal.specs.declared.outcome.Outcome.TheVariants.{Done, Refused}
-use Rattle.refusal.specs.declared.outcome.Outcome.{Outcome}
 use Rattle.refusal.specs.declared.outcome.Refusal.TheVariants.{BufferTooShort, LaneOrAxlesTooLow}
 use Rattle.passage.proofs.write.write.Goals as goal
 
 -- plate and blind as long as they have to be
 past_lengths : (n : Numbers) (p b : List ℕ) (room : ℕ) {answer : Outcome} → length p ≡ 10 → length b ≡ 32 → bytes_answer (line_of n p b) ≡ answer
-    → write_answer n p b room ≡ next answer Refused (cond (ltb room 63) (Refused BufferTooShort) Done)
+    → write_answer n p b room ≡ next answer Err (cond (ltb room 63) (Err BufferTooShort) done)
 unfolding write_answer
 past_lengths n p b room long-p long-b e = simp (eq-eqb (length p) 10 long-p, eq-eqb (length b) 32 long-b, e)
 
@@ -37,17 +37,17 @@ module _ (n : Numbers) (p b : List ℕ) {wrong : ℕ} (e : wrong ≡ lowest_from
   fit : Fit n
   fit = allowed_fit n p b all
 
-  low_lane : n.lane ≡ 0 → bytes_answer (line_of n p b) ≡ Refused LaneOrAxlesTooLow
+  low_lane : n.lane ≡ 0 → bytes_answer (line_of n p b) ≡ Err LaneOrAxlesTooLow
   low_lane none = no_lane _ all (lane_in n p b fit ∙ none)
 
   module _ (some : n.lane ≡ 0 → ⊥) where
     some_lane : number_in lane (line_of n p b) ≡ 0 → ⊥
     some_lane none = some (sym (lane_in n p b fit) ∙ none)
 
-    low_axles : n.axles < 2 → bytes_answer (line_of n p b) ≡ Refused LaneOrAxlesTooLow
+    low_axles : n.axles < 2 → bytes_answer (line_of n p b) ≡ Err LaneOrAxlesTooLow
     low_axles few = few_axles _ all some_lane (omega (arith, axles_in_lem n p b fit))
 
-    right : 2 ≤ n.axles → bytes_answer (line_of n p b) ≡ Done
+    right : 2 ≤ n.axles → bytes_answer (line_of n p b) ≡ done
     right enough = bytes_right _ all some_lane (omega (arith, axles_in_lem n p b fit))
 
 pub returns-then-plate-ne-PLATE_LENGTH : goal.returns-then-plate-ne-PLATE_LENGTH

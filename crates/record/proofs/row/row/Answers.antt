@@ -1,7 +1,7 @@
 -- A limit or a length that is refused is refused; past both the answer is the circuit's.
+use Rattle.std.specs.Prelude.{Err}
 use mathlib.Core.Path.{◌∙◌, refl, sym}
 use Rattle.circuit.specs.GivenRow.{given_left}
-use Rattle.circuit.specs.declared.given_row.RowAnswer.TheVariants.{Refused}
 use Rattle.limits.proofs.limit.Decided.{allowed_range}
 use Rattle.limits.proofs.limit.Tests.{length_done, length_passed, length-refused}
 use Rattle.record.specs.RowAnswer.{row_answer}
@@ -11,7 +11,7 @@ pub returns-in-Refused : goal.returns-in-Refused
 unfolding row_answer given_left
 returns-in-Refused c =
     record {
-      value = sym (length-refused Refused _ _ _ _ (sym c.ask_length-allowed.ensures ∙ c.in-Refused.is));
+      value = sym (length-refused Err _ _ _ _ (sym c.ask_length-allowed.ensures ∙ c.in-Refused.is));
       out_after = refl;
     }
 
@@ -24,6 +24,6 @@ unfolding row_answer
 returns c =
     let asked = c in record {
       value = c.give_row.ensures.value
-          ∙ sym (length_passed Refused _ _ _ (sym asked.ask_length-allowed.ensures ∙ c.in_default.is));
+          ∙ sym (length_passed Err _ _ _ (sym asked.ask_length-allowed.ensures ∙ c.in_default.is));
       out_after = c.give_row.ensures.out_after;
     }

@@ -1,4 +1,5 @@
 -- What has been written and what the definition has still to give are together the whole.
+use Rattle.refusal.specs.Refusals.{done}
 use mathlib.Core.List.{List, [], ◌∷◌, ◌++◌, append_assoc, append-nil}
 use mathlib.Core.Path.{◌≡◌, refl, sym, ap, ◌∙◌}
 use Prim.Native.Nat.{ℕ, ◌+◌, ◌≤◌, ◌<◌}
