@@ -15,6 +15,7 @@ use refusal::outcome::Refusal;
 pub const ROW_BYTES: usize = 1956;
 
 // The row of a number, into the front of `out`: the terms of A, then B, then C, and how many each has; or refusal 3 or 4.
+#[tactic(auto, using(crate::proofs::given_row::GivenRows::row_outside, crate::proofs::given_row::GivenRows::room_short), unfolding(crate::specs::GivenRow::given_left))]
 pub fn give_row(circuit: Circuit, row: RowNumber, out: &mut [u8]) -> Result<Counts, Refusal>
     requires { Allowed circuit }
     ensures value { result ≡ given_row circuit row.0 (length out.old) }

@@ -1,7 +1,7 @@
 -- What a limit changes in an answer. There are four cases: a limit outside its range is 21 and a length outside its own is 2, whatever follows;
 -- where the length needs more blocks than the limit, the answer is 22 past the tests before it; else it is what follows, which does not see
 -- the limit. Sixteen blocks are enough for every length in range, so that with sixteen the third case does not come up.
-use Rattle.std.specs.Prelude.{Err, Ok, Result}
+use Rattle.std.specs.Prelude.{Err, Result}
 use mathlib.Core.Bool.{Bool, cond, false, true≢false}
 use mathlib.Core.List.{List}
 use mathlib.Core.Logic.{by_cases}

@@ -1,5 +1,5 @@
 -- Answers that have room in one number. Most refusals have no value; of a chain of tests each answer has to have room.
-use Rattle.std.specs.Prelude.{Err, Ok}
+use Rattle.std.specs.Prelude.{Err}
 use mathlib.Core.Bool.{Bool, cond, false, true}
 use mathlib.Core.List.{[]}
 use mathlib.Core.Path.{◌≡◌, refl, subst, sym}

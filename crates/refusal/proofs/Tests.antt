@@ -1,7 +1,7 @@
 -- Answers that are chains of tests, each of which refuses. A test that is passed is a condition that holds; an answer that is none
 -- of the tests' own comes from what follows them. Where the tests stand before any further answer, a refusal of theirs stands
 -- whatever follows, and past them the answer is the further one.
-use Rattle.std.specs.Prelude.{Err, Ok}
+use Rattle.std.specs.Prelude.{Err}
 use mathlib.Core.Bool.{Bool, cond, false, not, true, true≢false}
 use mathlib.Core.Logic.Iff
 use mathlib.Core.Logic.{◌↔◌}

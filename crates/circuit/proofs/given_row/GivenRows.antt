@@ -1,7 +1,7 @@
 -- The answer by its cases, test by test, and what a row that is given leaves in the buffer.
 use Rattle.std.specs.Prelude.{Err, Ok}
 use mathlib.Core.List.{List, ◌++◌}
-use mathlib.Core.Path.{◌≡◌, sym}
+use mathlib.Core.Path.{◌≡◌, refl, sym}
 use Prim.Native.Nat.{ℕ, ◌+◌, ◌*◌, ◌<◌, ◌≤◌}
 use native.Mathlib.Omega.{arith}
 use borrow.Author.Tests.{le-leb, le-ltb, lt-leb, lt-ltb}
@@ -30,18 +30,18 @@ module _ (C : Circuit) (k room : ℕ) where
   unfolding given_row
   room_short h i = sym (rw (lt-leb (row_count C) k h, lt-ltb room row_bytes i))
 
-  pub row-given : k < row_count C → row_bytes ≤ room → counted (row_at C k) ≡ given_row C k room
+  pub row_given : k < row_count C → row_bytes ≤ room → counted (row_at C k) ≡ given_row C k room
   unfolding given_row
-  row-given h i = sym (rw (lt-leb (row_count C) k h, le-ltb room row_bytes i))
+  row_given h i = sym (rw (lt-leb (row_count C) k h, le-ltb room row_bytes i))
 
 module _ {r : Row} {n : Counts} {l m : List ℕ} (h : Filled r n l m) where
-  pub filled-counted : Ok n ≡ counted r
+  pub filled_counted : Ok n ≡ counted r
   unfolding counted
-  filled-counted = cc (h.a, h.b, h.c)
+  filled_counted = rw (sym h.a, sym h.b, sym h.c) refl
 
-  pub filled-left : (out left : List ℕ) → term_room ≤ length l → row_bytes ≤ length out
+  pub filled_left : (out left : List ℕ) → term_room ≤ length l → row_bytes ≤ length out
       → ((ts : List Term) (rest : List ℕ) → length ts ≡ n.a + n.b + n.c → m ≡ flat ts ++ rest → Written 0 (terms_bytes ts) out left)
       → left ≡ terms_bytes (terms r) ++ drop (12 * length (terms r)) out
-  filled-left out left room bytes e =
+  filled_left out left room bytes e =
       written-front _ (length-terms (terms r)) (omega (arith, filled-length h, h.few))
       (e (terms r) _ (filled-length h) (filled-front h (omega (arith, h.few))))
