@@ -104,6 +104,6 @@ wrote-row {w} {m} {l} {l'} {l''} s j u e h h' =
     (wrote_on u e (λ k below. sym (grid-at m s j k below)) h h')
 
 -- from wire 0 on: the entries, and then what stood there before
-pub wrote-front : {n : ℕ} {s : ℕ → ℕ} {l l' : List ℕ} → 8 * n ≤ length l → Wrote 0 n s l l'
+pub wrote_front : {n : ℕ} {s : ℕ → ℕ} {l l' : List ℕ} → 8 * n ≤ length l → Wrote 0 n s l l'
     → l' ≡ entry_bytes n s ++ drop (8 * n) l
-wrote-front {n} {s} room h = written-front (8 * n) (length_entries n s) room h.entries
+wrote_front {n} {s} room h = written-front (8 * n) (length_entries n s) room h.entries

@@ -4,9 +4,10 @@ use Rattle.std.specs.Prelude.{Err, Ok, Result}
 use mathlib.Core.Logic.Iff
 use mathlib.Core.Logic.{◌↔◌}
 use mathlib.Core.Path.{◌≡◌, ◌∙◌, ap, refl, sym}
-use Prim.Native.Nat.{ℕ}
+use Prim.Native.Nat.{ℕ, ◌≤◌}
 use Rattle.limits.proofs.Limited.{Other, other_number}
-use Rattle.limits.proofs.limit.Decided.{beyond_limit, limit_cases, outside_limit, too_long, within-allows, within_limit}
+use Rattle.limits.proofs.limit.Decided.{allowed_range, beyond_limit, limit_cases, outside_limit, too_long, within-allows, within_limit}
+use Rattle.limits.specs.Blocks.{most_bits}
 use Rattle.limits.specs.Limit.{Allows, allowance, length_answer, limited}
 use Rattle.limits.specs.declared.limit.Allowance.TheVariants.{Beyond, Within}
 use Rattle.limits.specs.declared.limit.Allowance.{Allowance}
@@ -73,9 +74,9 @@ module _ {A : Type 0} (refused : Refusal → A) (next : A) where
 
   module _ (l n : ℕ) where
     -- a refusal of the length's stands whatever follows
-    pub length-refused : (r : Refusal) → length_answer l n done ≡ Err r → limited refused (λ x. x) (allowance l n) next ≡ refused r
+    pub length_refused : (r : Refusal) → length_answer l n done ≡ Err r → limited refused (λ x. x) (allowance l n) next ≡ refused r
     unfolding length_answer
-    length-refused r e = refused-at (allowance l n) r e
+    length_refused r e = refused-at (allowance l n) r e
 
     -- and past it the answer is what follows
     pub length_passed : length_answer l n done ≡ done → limited refused (λ x. x) (allowance l n) next ≡ next
@@ -105,6 +106,16 @@ module _ (l n : ℕ) where
 
   pub length_done : (length_answer l n done ≡ done) ↔ (Allows l n × (done ≡ done))
   length_done = past-length done done (other_number 0 refl refl refl) Iff.rfl
+
+  -- a refusal of the length's stands whatever follows, past it the answer is what follows, and the length is in range
+  pub length_stands : (r : Refusal) (next : Outcome) → length_answer l n done ≡ Err r → length_answer l n next ≡ Err r
+  length_stands = length_before.stands
+
+  pub length_next : (next : Outcome) → length_answer l n done ≡ done → length_answer l n next ≡ next
+  length_next = length_before.passed
+
+  pub length_range : length_answer l n done ≡ done → n ≤ most_bits
+  length_range e = allowed_range (length_done.0 e).0
 
   pub length_passes : (next : Outcome) → Allows l n → length_answer l n next ≡ next
   length_passes next allowed = length_before.passed next (length_done.1 (allowed, refl))

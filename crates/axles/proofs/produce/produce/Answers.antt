@@ -8,7 +8,7 @@ use Prim.Native.Nat.{ℕ, ◌*◌, ◌<◌, ◌≤◌}
 use native.Mathlib.Omega.{arith}
 use borrow.Author.Tests.{le-ltb, lt-ltb}
 use lib.ListN.{length}
-use Rattle.assignment.proofs.Writes.{wrote-front}
+use Rattle.assignment.proofs.Writes.{wrote_front}
 use Rattle.axles.proofs.Bands.{band_iff}
 use Rattle.axles.specs.Band.{in_band}
 use Rattle.axles.specs.Produce.{axle_assignment_of, axles_produce_answer}
@@ -88,5 +88,5 @@ returns c =
       value = sym
           ((handed_tests axle_bits _ partner_limit).passed _ (sym c.ask_record-answer.ensures ∙ c.in_default.is)
           ∙ rw (in_range, band, le-ltb _ _ fits));
-      out_after = wrote-front fits c.put_axles.ensures;
+      out_after = wrote_front fits c.put_axles.ensures;
     }

@@ -1,7 +1,7 @@
 -- A line that is read has numbers below 1,000,000,000; a length that our limit allows is that of a circuit that is allowed.
 use mathlib.Core.Path.{sym, ap, ◌∙◌}
 use Rattle.limits.proofs.limit.Decided.{allowed_range}
-use Rattle.limits.proofs.limit.Tests.{length_done, length_passed, length-refused}
+use Rattle.limits.proofs.limit.Tests.{length_done, length_passed, length_refused}
 use Rattle.limits.specs.Limit.{our_limit}
 use Rattle.listing.specs.Request.{asked, checked}
 use Rattle.listing.specs.declared.request.Request.TheVariants.{Refused}
@@ -13,7 +13,7 @@ unfolding checked
 returns-in-Refused c =
     sym
     (ap asked (sym c.in-Numbers.ensures)
-    ∙ length-refused Refused _ our_limit _ _ (sym c.in-Refused.ensures))
+    ∙ length_refused Refused _ our_limit _ _ (sym c.in-Refused.ensures))
 
 pub within-requires : goal.within-requires
 within-requires c =

@@ -6,7 +6,7 @@ use Prim.Native.Nat.{ℕ, ◌+◌, ◌-◌, ◌*◌, ◌/◌, ◌%◌, ◌<◌, 
 use native.Mathlib.Omega.{arith}
 use borrow.Author.Tests.{eq-eqb, le-ltb, lt-ltb, ne_eqb}
 use lib.ListN.{length}
-use Rattle.assignment.proofs.Writes.{wrote-front, wrote-next}
+use Rattle.assignment.proofs.Writes.{wrote_front, wrote-next}
 use Rattle.assignment.specs.Wrote.{Wrote}
 use Rattle.circuit.specs.Wires.{wire_count}
 use Rattle.circuit.specs.declared.circuits.Circuit.TheVariants.{Record}
@@ -92,7 +92,7 @@ returns c =
     let words : 64 * (result / 64) + 1 ≡ wires = omega arith in
     let last : result - 1 ≡ 64 * (result / 64) = omega arith in record {
       value = sym ((length_before _ _).passed _ allowed ∙ simp (le-ltb _ _ room, eq-eqb _ _ long, eq-eqb _ _ none));
-      out_after = wrote-front room
+      out_after = wrote_front room
           (subst (λ m. Wrote 0 m (bit_of_bytes p) a.out.now c.put_entry.new.out) words
           (wrote-next _ (omega arith) (c.bit_at.ensures ∙ ap (bit_of_bytes p) last) c.put_entries.ensures c.put_entry.ensures));
     }

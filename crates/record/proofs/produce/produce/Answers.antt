@@ -4,7 +4,7 @@ use Prim.Native.Nat.{◌*◌, ◌<◌, ◌≤◌}
 use native.Mathlib.Omega.{arith}
 use borrow.Author.Tests.{le-ltb, lt-ltb}
 use lib.ListN.{length}
-use Rattle.assignment.proofs.Writes.{wrote-front}
+use Rattle.assignment.proofs.Writes.{wrote_front}
 use Rattle.circuit.specs.Wires.{wire_count}
 use Rattle.circuit.specs.declared.circuits.Circuit.TheVariants.{Record}
 use Rattle.limits.proofs.handed.Asked.{handed_done, handed_tests}
@@ -49,5 +49,5 @@ returns c =
       value = sym
           ((handed_tests a.bits a.bytes.now a.limit).passed _ (sym c.ask_record-answer.ensures ∙ c.in_default.is)
           ∙ simp (le-ltb _ _ fits));
-      out_after = wrote-front fits c.put_assignment.ensures;
+      out_after = wrote_front fits c.put_assignment.ensures;
     }

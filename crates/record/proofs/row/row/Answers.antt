@@ -3,7 +3,7 @@ use Rattle.std.specs.Prelude.{Err}
 use mathlib.Core.Path.{◌∙◌, refl, sym}
 use Rattle.circuit.specs.GivenRow.{given_left}
 use Rattle.limits.proofs.limit.Decided.{allowed_range}
-use Rattle.limits.proofs.limit.Tests.{length_done, length_passed, length-refused}
+use Rattle.limits.proofs.limit.Tests.{length_done, length_passed, length_refused}
 use Rattle.record.specs.RowAnswer.{row_answer}
 use Rattle.record.proofs.row.row.Goals as goal
 
@@ -11,7 +11,7 @@ pub returns-in-Refused : goal.returns-in-Refused
 unfolding row_answer given_left
 returns-in-Refused c =
     record {
-      value = sym (length-refused Err _ _ _ _ (sym c.ask_length-allowed.ensures ∙ c.in-Refused.is));
+      value = sym (length_refused Err _ _ _ _ (sym c.ask_length-allowed.ensures ∙ c.in-Refused.is));
       out_after = refl;
     }
 
