@@ -1,6 +1,6 @@
 -- Round j reads Wj and W(j+4) of the expansion and nothing else. So with an array of the words before W(j+4), that word and the round
 -- take a block from round j to round j + 1, whichever round it is.
-use Rattle.std.proofs.Common.{◌≡◌, ℕ, ◌+◌, ◌<◌, List, get_or, take, set, sym, ap, ◌∙◌, add-one, arith, get_or-take}
+use Rattle.std.proofs.Common.{◌≡◌, ℕ, ◌+◌, ◌<◌, List, length, get_or, take, set, sym, refl, ap, ◌∙◌, add-one, arith, get_or-take}
 use Rattle.sm3.specs.Reached.{Reached}
 use Rattle.sm3.specs.Sm3.{◌⊕◌, expansion, next_word, w_prime, round_of, rounds, rotated_constant}
 use Rattle.sm3.specs.declared.state.State.{State}
@@ -8,6 +8,12 @@ use Rattle.sm3.proofs.expansion.FirstWords.{Holds, W, W-next, get_or-expansion, 
 use Rattle.encoding.proofs.Tab.{get_or-tab}
 use Rattle.encoding.specs.Bits.{bit_of_bytes}
 use Rattle.encoding.specs.Sequence.{tab}
+
+-- with the first four words a block stands before round 0
+pub reached_first : (bytes t w : List ℕ) (v : State) → length bytes ≡ 64 → t ≡ tab 64 rotated_constant → length w ≡ 68
+    → take 4 w ≡ expansion (bit_of_bytes bytes) 4 → Reached bytes t v 0 w v
+unfolding rounds
+reached_first bytes t w v h e l first = record { whole = h; table = e; room = l; words = first; state = refl }
 
 -- one round more
 pub rounds-next : (w : List ℕ) (v : State) (j : ℕ) → rounds w v (j + 1) ≡ round_of j (get_or w j 0) (w_prime w j) (rounds w v j)
