@@ -1,8 +1,8 @@
 -- Entries below a limit. They are asked from wire 0 on, so where an entry is below the limit those after it decide; and where all of
 -- them put together by `or` are below it, each of them is.
 use Rattle.refusal.specs.Refusals.{Outcome, done}
-use Rattle.std.specs.Prelude.{Err, Ok, Some, None, Option}
-use Rattle.std.proofs.Common.{◌≡◌, ℕ, ◌+◌, ◌-◌, ◌*◌, ◌<◌, ◌≤◌, ◌↔◌, List, length, sym, ◌∙◌, subst, arith, lit<, below_none, below_more, ltb-true, le-ltb, lt-ltb}
+use Rattle.std.specs.Prelude.{Err, Some, None, Option}
+use Rattle.std.proofs.Common.{◌≡◌, ℕ, ◌+◌, ◌-◌, ◌*◌, ◌<◌, ◌≤◌, ◌↔◌, List, length, sym, ap, ◌∙◌, subst, arith, lit<, below_none, below_more, ltb-true, le-ltb, lt-ltb}
 use mathlib.Core.Logic.{by_cases}
 use native.Mathlib.Decide.{dec_lt}
 use lib.Bits.{and_le_l, and_le_r, bit_or, or_add_and}
@@ -86,9 +86,15 @@ refused_by refusal None = done
 refused_by refusal (Some w) = Err (refusal w)
 
 module _ (refusal : WireNumber → Refusal) (limit n : ℕ) (a : List ℕ) where
-  pub refused_by-lowest : refused_by refusal (lowest_not_below limit a 0 n) ≡ limit_answer refusal limit n a done
+  refused_by-lowest : refused_by refusal (lowest_not_below limit a 0 n) ≡ limit_answer refusal limit n a done
   unfolding lowest_not_below limit_answer
   refused_by-lowest = failing.lowest-map _ _ (refused_by refusal) None 0 n
+
+  pub none_refused : lowest_not_below limit a 0 n ≡ None → limit_answer refusal limit n a done ≡ done
+  none_refused e = sym refused_by-lowest ∙ ap (refused_by refusal) e
+
+  pub lowest_refused : {w : WireNumber} → lowest_not_below limit a 0 n ≡ Some w → limit_answer refusal limit n a done ≡ Err (refusal w)
+  lowest_refused e = sym refused_by-lowest ∙ ap (refused_by refusal) e
 
   -- the test stands before any further answer
   pub limit_before : Before (limit_answer refusal limit n a)

@@ -10,7 +10,12 @@ use refusal::numbers::WireNumber;
 use refusal::outcome::Refusal;
 
 // The lowest of the entries from `from` on and below `to` that is not below the limit, if there is one: they are asked in their order.
-fn lowest_asked(assignment: &[u8], from: WireNumber, to: WireNumber, limit: u64) -> Option<WireNumber>
+fn lowest_asked(
+    assignment: &[u8],
+    from: WireNumber,
+    to: WireNumber,
+    limit: u64,
+) -> Option<WireNumber>
     requires { (from.0 ≤ to.0) × (8 * to.0 ≤ length assignment.now) }
     ensures { result ≡ lowest_not_below limit assignment.now from.0 (to.0 - from.0) }
 {
@@ -24,7 +29,12 @@ fn lowest_asked(assignment: &[u8], from: WireNumber, to: WireNumber, limit: u64)
 }
 
 // The same. Where all of them put together are below the limit none has to be asked.
-fn lowest_in_run(assignment: &[u8], from: WireNumber, to: WireNumber, limit: u64) -> Option<WireNumber>
+fn lowest_in_run(
+    assignment: &[u8],
+    from: WireNumber,
+    to: WireNumber,
+    limit: u64,
+) -> Option<WireNumber>
     requires { (from.0 ≤ to.0) × (8 * to.0 ≤ length assignment.now) }
     ensures { result ≡ lowest_not_below limit assignment.now from.0 (to.0 - from.0) }
 {
@@ -58,6 +68,7 @@ pub fn lowest_not_below(assignment: &[u8], n: u64, limit: u64) -> Option<WireNum
 }
 
 // Refusal 20 for the lowest of the first n entries that is p or more, if there is one.
+#[tactic(auto, using(crate::proofs::EntriesBelow::none_refused, crate::proofs::EntriesBelow::lowest_refused))]
 pub fn below_prime(assignment: &[u8], n: u64) -> Result<(), Refusal>
     requires { 8 * n ≤ length assignment.now }
     ensures { result ≡ below_prime_answer n assignment.now done }

@@ -16,13 +16,13 @@ next-run j = omega arith
 pub loop-j-init : goal.loop-j-init
 loop-j-init c = (omega arith, ap (lowest_not_below _ _ 0) (sym (sub-zero _)))
 
-pub returns-in-NotBelow : goal.returns-in-NotBelow
-returns-in-NotBelow c =
+pub returns-in-Some : goal.returns-in-Some
+returns-in-Some c =
     let l = c.loop-j in
     sym
     (l.invariant.1
     ∙ run_found _ _ _ (256 * l.j) 256 (omega arith) _
-    (ap (lowest_not_below _ _ (256 * l.j)) (run_length l.j) ∙ sym c.lowest_in_run-lowest.ensures ∙ c.in-NotBelow.is))
+    (ap (lowest_not_below _ _ (256 * l.j)) (run_length l.j) ∙ sym c.lowest_in_run-lowest.ensures ∙ c.in-Some.is))
 
 pub loop-j-preserved : goal.loop-j-preserved
 loop-j-preserved c =
