@@ -5,10 +5,10 @@ use Prim.Native.Nat.{ℕ, ◌≤◌, ◌<◌}
 use native.Mathlib.Omega.{arith}
 use lib.ListN.{length, length-append}
 use lib.Seq.{drop-append_seam}
+use Rattle.std.specs.Prelude.{None, Option, Some}
 use Rattle.text.specs.Decimal.{decimal, field}
-use Rattle.text.specs.Field.{after, field_of}
+use Rattle.text.specs.Field.{after, field_of, found}
 use Rattle.text.specs.declared.field.Field.{Field}
-use Rattle.text.specs.declared.field.Field.TheVariants.{Number, Wrong}
 use Rattle.text.proofs.Digits.{length-decimal}
 use Rattle.text.proofs.FieldRight.{Begins, field-begins, field-read, field-rest}
 
@@ -17,7 +17,7 @@ pub length-field : (v stop : ℕ) → v < 1000000000 → length (field v stop) �
 unfolding field
 length-field v stop below = omega (arith, length-decimal 8 v below, length-append (decimal v) (stop ∷ []))
 
-pub field-within : (stop : ℕ) (s : List ℕ) (v m : ℕ) → field_of stop s ≡ Number v m → m ≤ length s
+pub field-within : (stop : ℕ) (s : List ℕ) (v m : ℕ) → field_of stop s ≡ found v m → m ≤ length s
 field-within stop s v m e =
     let begins = field-begins stop s v m e in
     omega (arith, begins.bytes, ap length begins.is, length-append (field v stop) begins.rest)
@@ -37,14 +37,14 @@ module _ {A : Type 0} (wrong : A) (stop : ℕ) (next : ℕ → ℕ → List ℕ 
       → (t : List ℕ)
       → after wrong (field_of stop (field v stop ++ t)) (field v stop ++ t) next ≡ next v (length (field v stop)) t
   goes_on apart v below t =
-      ap (λ (f : Field). after wrong f (field v stop ++ t) next) (field-read stop apart v below t)
+      ap (λ (f : Option Field). after wrong f (field v stop ++ t) next) (field-read stop apart v below t)
       ∙ ap (next v (length (field v stop))) (drop-append_seam (field v stop) t)
 
   pub past : (s : List ℕ) (r : A) → (wrong ≡ r → ⊥) → after wrong (field_of stop s) s next ≡ r → Past stop next s r
   past s r other e = by (field_of stop s) refl e
     where
-      by : (f : Field) → field_of stop s ≡ f → after wrong f s next ≡ r → Past stop next s r
-      by (Number v m) read e =
-          let begins = field-begins stop s v m read in
-          record { v = v; m = m; begins = begins; on = ap (next v m) (sym (field-rest begins)) ∙ e }
-      by Wrong read e = absurd (other e)
+      by : (f : Option Field) → field_of stop s ≡ f → after wrong f s next ≡ r → Past stop next s r
+      by (Some f) read e =
+          let begins = field-begins stop s f.value f.bytes read in
+          record { v = f.value; m = f.bytes; begins = begins; on = ap (next f.value f.bytes) (sym (field-rest begins)) ∙ e }
+      by None read e = absurd (other e)

@@ -9,10 +9,11 @@ use native.Mathlib.Decide.{ℕ_discrete}
 use native.Mathlib.Omega.{arith}
 use lib.ListN.{length, drop, length-append}
 use lib.Seq.{drop_at}
+use Rattle.std.proofs.lemmas.Option.{same_Some}
+use Rattle.std.specs.Prelude.{None, Option}
 use Rattle.text.specs.Decimal.{decimal, digit, field}
-use Rattle.text.specs.Field.{continues, field_from, field_of}
+use Rattle.text.specs.Field.{continues, field_from, field_of, found}
 use Rattle.text.specs.declared.field.Field.{Field}
-use Rattle.text.specs.declared.field.Field.TheVariants.{Number, Wrong}
 use Rattle.text.proofs.Digits.{by_tenths, decimal_high, decimal_low, decimal-more, decimal_some}
 use Rattle.text.proofs.Fields.{NextDigit, digit-more, digit_wrong, is_next, next-digit, no_stop, stop_after, stop_first}
 
@@ -57,14 +58,14 @@ pub record Begins (stop : ℕ) (s : List ℕ) (v m : ℕ) : Type 0 where
   pub rest : List ℕ
   pub is : s ≡ field v stop ++ rest
 
-never : {f : Field} {v m : ℕ} → f ≡ Wrong → f ≡ Number v m → ⊥
+never : {f : Option Field} {v m : ℕ} → f ≡ None → f ≡ found v m → ⊥
 never {f} {v} {m} wrong right = let z : ◌≡◌ {A = ℕ} 0 1 = cc in omega arith
 
 module _ (stop w m : ℕ) where
   sound :
       (s : List ℕ) (v n : ℕ) (digits : List ℕ)
       → Read v n digits
-      → field_from stop v n s ≡ Number w m
+      → field_from stop v n s ≡ found w m
       → Begins stop (digits ++ s) w m
   unfolding field
   sound [] v n digits read e = absurd (never (no_stop stop v n) e)
@@ -73,9 +74,10 @@ module _ (stop w m : ℕ) where
     where
       stopped : c ≡ stop → (n ≡ 0 → ⊥) → Begins stop (digits ++ (c ∷ s)) w m
       stopped is later =
-          let same : Number v (n + 1) ≡ Number w m = sym (stop_after stop v n c s is later) ∙ e in
-          let value : v ≡ w = cc in
-          let bytes : n + 1 ≡ m = cc in
+          let same : found v (n + 1) ≡ found w m = sym (stop_after stop v n c s is later) ∙ e in
+          let fields = same_Some _ _ same in
+          let value : v ≡ w = ap (λ (f : Field). f.value) fields in
+          let bytes : n + 1 ≡ m = ap (λ (f : Field). f.bytes) fields in
           let whole : digits ≡ decimal w = read.some later ∙ ap decimal value in
           record {
             below = rw value at read.below;
@@ -92,7 +94,7 @@ module _ (stop w m : ℕ) where
           → (more : Bool)
           → continues v n c ≡ more
           → (Read (10 * v + (c - 48)) (n + 1) (digits ++ (c ∷ []))
-          → field_from stop (10 * v + (c - 48)) (n + 1) s ≡ Number w m
+          → field_from stop (10 * v + (c - 48)) (n + 1) s ≡ found w m
           → Begins stop (digits ++ (c ∷ []) ++ s) w m)
           → Begins stop (digits ++ (c ∷ s)) w m
       by (yes is) more told further = stopped is (λ first. never (stop_first stop v n c s is first) e)
@@ -101,7 +103,7 @@ module _ (stop w m : ℕ) where
           (further (read_more read (next-digit v n c told)) (sym (digit-more stop v n c s isnt told) ∙ e))
       by (no isnt) false told further = absurd (never (digit_wrong stop v n c s isnt told) e)
 
-pub field-begins : (stop : ℕ) (s : List ℕ) (v m : ℕ) → field_of stop s ≡ Number v m → Begins stop s v m
+pub field-begins : (stop : ℕ) (s : List ℕ) (v m : ℕ) → field_of stop s ≡ found v m → Begins stop s v m
 unfolding field_of
 field-begins stop s v m e =
     sound stop v m s 0 0 [] (record { counted = refl; below = omega arith; none = λ _. refl; some = λ no_digit. absurd (no_digit refl) }) e
@@ -147,10 +149,10 @@ pub field-read :
     → (v : ℕ)
     → v < 1000000000
     → (t : List ℕ)
-    → field_of stop (field v stop ++ t) ≡ Number v (length (field v stop))
+    → field_of stop (field v stop ++ t) ≡ found v (length (field v stop))
 unfolding field field_of
 field-read stop apart v below t =
     ap (field_from stop 0 0) (append_assoc (decimal v) (stop ∷ []) t)
     ∙ read-decimal stop apart v below (stop ∷ t)
     ∙ stop_after stop v (length (decimal v)) stop t refl (λ e. omega (arith, e, decimal_some v))
-    ∙ ap (Number v) (sym (length-append (decimal v) (stop ∷ [])))
+    ∙ ap (found v) (sym (length-append (decimal v) (stop ∷ [])))

@@ -1,28 +1,37 @@
 -- Reading a field byte by byte: what each byte does, as the tests of the definition say.
 use mathlib.Core.Bool.{true, false, ◌&&◌, ◌||◌, and-eq-true_iff}
 use mathlib.Core.List.{List, [], ◌∷◌}
-use mathlib.Core.Path.{◌≡◌, refl}
+use mathlib.Core.Path.{◌≡◌, refl, ◌∙◌}
 use Prim.Native.Nat.{ℕ, ◌+◌, ◌-◌, ◌*◌, ◌≤◌, ◌<◌}
 use native.Mathlib.Decide.{ℕ_discrete}
-use borrow.Author.Tests.{eq-eqb, ne_eqb, lt-ltb, ltb-true}
+use native.Mathlib.Omega.{arith}
+use borrow.Author.Tests.{eq-eqb, le-ltb, ne_eqb, lt-ltb, ltb-true}
 use lib.Dec.{eqb, ltb}
 use Rattle.text.proofs.Digits.{digit_bounds, is_digit_lem}
+use Rattle.std.specs.Bool.{then_some}
+use Rattle.std.specs.Prelude.{None}
 use Rattle.text.specs.Decimal.{is_digit}
-use Rattle.text.specs.Field.{continues, field_from}
-use Rattle.text.specs.declared.field.Field.TheVariants.{Number, Wrong}
+use Rattle.text.specs.Field.{continues, field_from, found}
 
-pub no_stop : (stop v n : ℕ) → field_from stop v n [] ≡ Wrong
+pub no_stop : (stop v n : ℕ) → field_from stop v n [] ≡ None
 unfolding field_from
 no_stop stop v n = refl
 
 module _ (stop v n c : ℕ) (s : List ℕ) where
-  pub stop_first : c ≡ stop → n ≡ 0 → field_from stop v n (c ∷ s) ≡ Wrong
+  pub stop_first : c ≡ stop → n ≡ 0 → field_from stop v n (c ∷ s) ≡ None
   unfolding field_from
   stop_first is none = simp (eq-eqb c stop is, eq-eqb n 0 none)
 
-  pub stop_after : c ≡ stop → (n ≡ 0 → ⊥) → field_from stop v n (c ∷ s) ≡ Number v (n + 1)
+  pub stop_after : c ≡ stop → (n ≡ 0 → ⊥) → field_from stop v n (c ∷ s) ≡ found v (n + 1)
   unfolding field_from
   stop_after is some = simp (eq-eqb c stop is, ne_eqb n 0 some)
+
+  pub stopped : c ≡ stop → field_from stop v n (c ∷ s) ≡ then_some (ltb 0 n) (record { value = v; bytes = n + 1 })
+  stopped is = by (ℕ_discrete n 0)
+    where
+      by : Dec (n ≡ 0) → field_from stop v n (c ∷ s) ≡ then_some (ltb 0 n) (record { value = v; bytes = n + 1 })
+      by (yes none) = stop_first is none ∙ simp (le-ltb 0 n (omega arith))
+      by (no some) = stop_after is some ∙ simp (lt-ltb 0 n (omega arith))
 
   pub digit-more :
       (c ≡ stop → ⊥)
@@ -31,7 +40,7 @@ module _ (stop v n c : ℕ) (s : List ℕ) where
   unfolding field_from
   digit-more isnt more = simp (ne_eqb c stop isnt, more)
 
-  pub digit_wrong : (c ≡ stop → ⊥) → continues v n c ≡ false → field_from stop v n (c ∷ s) ≡ Wrong
+  pub digit_wrong : (c ≡ stop → ⊥) → continues v n c ≡ false → field_from stop v n (c ∷ s) ≡ None
   unfolding field_from
   digit_wrong isnt wrong = simp (ne_eqb c stop isnt, wrong)
 

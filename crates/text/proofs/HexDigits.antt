@@ -1,18 +1,21 @@
 -- The laws of one digit: a value below 16 has a digit, of which it is the value, and there are no others. A byte past the
 -- end reads as 0 and is no digit, so where n digits stand they all lie within.
-use mathlib.Core.Bool.{true, and-eq-true_iff, or-false}
-use mathlib.Core.List.{List}
+use mathlib.Core.Bool.{Bool, false, true, ◌&&◌, and-eq-true_iff, or-false}
+use mathlib.Core.List.{List, ◌∷◌}
 use mathlib.Core.Logic.Iff
 use mathlib.Core.Logic.{◌↔◌}
 use mathlib.Core.Path.{◌≡◌, refl, subst, sym, ap, ◌∙◌}
 use Prim.Native.Nat.{ℕ, zero, suc, ◌+◌, ◌-◌, ◌≤◌, ◌<◌}
 use native.Mathlib.Decide.{dec_lt}
 use native.Mathlib.Nat.{add-zero}
+use native.Mathlib.Numerals.{add-one}
 use native.Mathlib.Omega.{arith}
 use borrow.Author.Count.{below_none}
 use borrow.Author.Tests.{le-leb, lt-leb, leb-true, le-ltb, lt-ltb}
 use lib.Dec.{leb}
-use lib.ListN.{get_or, length, get_or-eq_default}
+use lib.ListN.{drop, get_or, length, take, get_or-eq_default}
+use lib.Seq.{drop-cons}
+use Rattle.std.specs.List.{list_all}
 use Rattle.encoding.proofs.Sequence.{Each}
 use Rattle.text.specs.Decimal.{is_digit, is_digit_or}
 use Rattle.text.specs.Hex.{all_hex, hex_digit, hex_value, is_hex}
@@ -104,3 +107,20 @@ all_hex_each (suc n) s at =
     Iff.trans (and-eq-true_iff (is_hex (get_or s at 0)) (all_hex n s (at + 1)))
     (Iff.trans (Iff.and (λ h. h, λ h. h) (all_hex_each n s (at + 1)))
     (each_more (λ k. is_hex (get_or s k 0) ≡ true) n at))
+
+-- .. so none of them stands past the end, and those that stand within are tested one after the other
+pub all_hex_past : (n : ℕ) (s : List ℕ) (at : ℕ) → length s - at < n → all_hex n s at ≡ false
+all_hex_past n s at past = by (all_hex n s at) refl
+  where
+    by : (b : Bool) → all_hex n s at ≡ b → all_hex n s at ≡ false
+    by false e = e
+    by true e = absurd (omega (arith, hex-within s (at + (n - 1)) ((all_hex_each n s at).0 e (n - 1) (omega arith))))
+
+pub all_hex_list : (n : ℕ) (s : List ℕ) (at : ℕ) → n ≤ length s - at → all_hex n s at ≡ list_all is_hex (take n (drop at s))
+unfolding all_hex
+all_hex_list zero s at within = refl
+all_hex_list (suc n) s at within =
+    let first : drop at s ≡ get_or s at 0 ∷ drop (at + 1) s =
+    drop-cons s at 0 (omega arith) ∙ ap (λ (k : ℕ). get_or s at 0 ∷ drop k s) (sym (add-one at)) in
+    ap (λ (b : Bool). is_hex (get_or s at 0) && b) (all_hex_list n s (at + 1) (omega arith))
+    ∙ sym (ap (λ (t : List ℕ). list_all is_hex (take (suc n) t)) first)

@@ -1,9 +1,12 @@
 -- Bytes that are written one piece after the other are written as one piece, which ends where the last piece ends.
-use mathlib.Core.List.{List, [], ◌∷◌, ◌++◌}
+use mathlib.Core.List.{List, [], ◌∷◌, ◌++◌, append_assoc}
 use mathlib.Core.Path.{◌≡◌, ◌∙◌, ap, refl, sym}
 use Prim.Native.Nat.{ℕ, ◌+◌, ◌≤◌}
 use native.Mathlib.Nat.{add-zero, zero-add}
 use native.Mathlib.Omega.{arith}
+use borrow.Rule.Slice.PartMut.{put_mid}
+use Rattle.std.proofs.lemmas.List.Edits.{paste_all, sets-eq}
+use Rattle.std.proofs.lemmas.Slice.{put_mid-paste}
 use lib.ListN.{drop, length, set, take, length-append}
 use lib.Seq.{take_at}
 use Rattle.encoding.proofs.Written.{length-written, written-front, written_none, written_one, written_then, written-two}
@@ -31,6 +34,34 @@ put_byte l at b = record { ends = refl; leaves = written_one at b l }
 
 pub put_two : (l : List ℕ) (at x y : ℕ) → Put l at (x ∷ y ∷ []) (set (set l at x) (at + 1) y) (at + 2)
 put_two l at x y = record { ends = refl; leaves = written-two at x y l }
+
+-- .. one byte more
+pub put_then_byte :
+    {l : List ℕ} {at : ℕ} {xs l' : List ℕ} {m : ℕ}
+    → Put l at xs l' m
+    → (b : ℕ)
+    → Put l at (xs ++ (b ∷ [])) (set l' m b) (m + 1)
+put_then_byte {l' = l'} {m = m} p b = put_then p (put_byte l' m b)
+
+-- a text is copied into its place
+pub put_copied :
+    (l : List ℕ) (at : ℕ) (xs ys : List ℕ) (k : ℕ)
+    → at + length xs ≤ length l
+    → ys ≡ xs
+    → k ≡ length xs
+    → Put l at xs (put_mid at k l ys) (at + length xs)
+put_copied l at xs ys k room same long =
+    record {
+      ends = refl;
+      leaves =
+          record {
+            left =
+                put_mid-paste at k l ys xs (length xs) same (sym long) refl
+                ∙ paste_all l at xs (length xs) refl
+                ∙ sym (append_assoc (take at l) xs (drop (at + length xs) l))
+                ∙ sym (sets-eq xs l at room);
+          };
+    }
 
 -- what is written at the front stands there
 pub put_front : {l xs l' : List ℕ} {end : ℕ} → Put l 0 xs l' end → end ≤ length l → take end l' ≡ xs

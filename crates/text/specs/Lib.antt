@@ -1,7 +1,6 @@
 pub mod Decimal
 pub mod Field
 pub mod Hex
-pub mod Literal
 pub mod Put
 pub mod Refused
 pub mod Text

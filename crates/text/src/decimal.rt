@@ -4,26 +4,19 @@ ghost use Rattle.text.specs.Decimal.{decimal, field, is_digit, is_digit_or};
 ghost use Rattle.text.specs.Put.{Put};
 
 // Whether c is a digit.
+#[tactic(auto, unfolding(crate::specs::Decimal::is_digit))]
 pub fn is_digit(c: u8) -> bool
     ensures { result ≡ is_digit c }
 {
-    if c < b'0' {
-        return false;
-    }
-    c <= b'9'
+    c.is_ascii_digit()
 }
 
 // Whether c is a digit, or a letter from `first` to `last`.
+#[tactic(auto, unfolding(crate::specs::Decimal::is_digit_or))]
 pub fn is_digit_or(first: u8, last: u8, c: u8) -> bool
     ensures { result ≡ is_digit_or first last c }
 {
-    if is_digit(c) {
-        return true;
-    }
-    if c < first {
-        return false;
-    }
-    c <= last
+    is_digit(c) || (first <= c && c <= last)
 }
 
 // The digits of x from `at` on.
@@ -32,11 +25,11 @@ pub fn put_decimal(out: &mut [u8], at: usize, x: u64) -> usize
     ensures { Put out.old at (decimal x) out.new result × (result ≤ at + 20) }
 {
     if x < 10 {
-        out[at] = 48 + x as u8;
+        out[at] = b'0' + x as u8;
         return at + 1;
     }
     let last = put_decimal(out, at, x / 10);
-    out[last] = 48 + (x % 10) as u8;
+    out[last] = b'0' + (x % 10) as u8;
     last + 1
 }
 

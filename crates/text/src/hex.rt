@@ -5,6 +5,7 @@ ghost use Rattle.text.specs.Hex.{all_hex, bytes_of_hex, hex_value, is_hex};
 use crate::decimal::is_digit_or;
 
 // Whether c is a digit.
+#[tactic(auto, unfolding(crate::specs::Hex::is_hex))]
 pub fn is_hex_digit(c: u8) -> bool
     ensures { result ≡ is_hex c }
 {
@@ -15,19 +16,13 @@ pub fn is_hex_digit(c: u8) -> bool
 pub fn all_hex(s: &[u8], at: usize, n: usize) -> bool
     ensures { result ≡ all_hex n s.now at }
 {
-    let mut k = at;
-    let mut left = n;
-    while 0 < left {
-        if s.len() <= k {
-            return false;
-        }
-        if !is_hex_digit(s[k]) {
-            return false;
-        }
-        k += 1;
-        left -= 1;
+    if n == 0 {
+        return true;
     }
-    true
+    if s.len().saturating_sub(at) < n {
+        return false;
+    }
+    s[at..at + n].iter().all(|&c| is_hex_digit(c))
 }
 
 // The value of a digit.
@@ -35,10 +30,7 @@ fn hex_value(c: u8) -> u8
     requires { is_hex c ≡ true }
     ensures { (result ≡ hex_value c) × (result < 16) }
 {
-    if c < b'a' {
-        return c - 48;
-    }
-    c - 87
+    if c < b'a' { c - b'0' } else { c - b'a' + 10 }
 }
 
 // The byte that the two digits from `at` on write.
@@ -56,7 +48,7 @@ pub fn put_bytes_of_hex(s: &[u8], at: usize, out: &mut [u8])
     requires { all_hex (2 * length out.old) s.now at ≡ true }
     ensures { out.new ≡ bytes_of_hex (length out.old) s.now at }
 {
-    for i in 0..out.len() {
-        out[i] = byte_of_hex(s, at + 2 * i);
+    for (k, byte) in out.iter_mut().enumerate() {
+        *byte = byte_of_hex(s, at + 2 * k);
     }
 }

@@ -1,23 +1,14 @@
-// Parts of fixed texts, written into a lent buffer.
-ghost use Rattle.std.specs.Prelude.{◌+◌, ◌≤◌, length, drop};
-ghost use Rattle.text.specs.Literal.{through};
+// Texts written into a lent buffer.
+ghost use Rattle.std.specs.Prelude.{◌+◌, ◌≤◌, length};
 ghost use Rattle.text.specs.Put.{Put};
 
-// The bytes of s from place `from` through the next byte `stop`, written from `at` on.
-pub fn put_through(out: &mut [u8], at: usize, s: &[u8], from: usize, stop: u8) -> usize
-    requires { at + length (through stop (drop from s.now)) ≤ length out.old }
-    ensures { Put out.old at (through stop (drop from s.now)) out.new result }
+// A text, from `at` on.
+#[tactic(auto, using(crate::proofs::Put::put_copied))]
+pub fn put_text(out: &mut [u8], at: usize, text: &str) -> usize
+    requires { at + length text.now ≤ length out.old }
+    ensures { Put out.old at text.now out.new result }
 {
-    let mut i = from;
-    let mut end = at;
-    while i < s.len() {
-        let c = s[i];
-        out[end] = c;
-        end += 1;
-        if c == stop {
-            return end;
-        }
-        i += 1;
-    }
+    let end = at + text.len();
+    out[at..end].copy_from_slice(text.as_bytes());
     end
 }

@@ -4,13 +4,14 @@ ghost use Rattle.text.specs.Put.{Put};
 ghost use Rattle.text.specs.Refused.{refused};
 
 use crate::decimal::put_field;
-use crate::literal::put_through;
+use crate::literal::put_text;
 
 // `refused,` and the number.
+#[tactic(auto, using(crate::proofs::Put::put_then), unfolding(crate::specs::Refused::refused))]
 pub fn put_refusal(out: &mut [u8], number: u64) -> usize
     requires { 29 ≤ length out.old }
     ensures { Put out.old 0 (refused number) out.new result × (result ≤ 29) }
 {
-    let at = put_through(out, 0, b"refused,", 0, b',');
+    let at = put_text(out, 0, "refused,");
     put_field(out, at, number, b'\n')
 }

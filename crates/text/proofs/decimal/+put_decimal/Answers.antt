@@ -8,7 +8,7 @@ use lib.ListN.{length, set, length-append}
 use Rattle.text.specs.Decimal.{decimal, digit}
 use Rattle.text.specs.Put.{Put}
 use Rattle.text.proofs.Digits.{decimal_low, decimal_high, length-decimal_64}
-use Rattle.text.proofs.Put.{put_byte, put_then}
+use Rattle.text.proofs.Put.{put_byte, put_then_byte}
 use Rattle.text.proofs.decimal.+put_decimal.Goals as goal
 
 put_low : (l : List ℕ) (at x : ℕ) → x < 10 → Put l at (decimal x) (set l at (digit x)) (at + 1)
@@ -20,7 +20,7 @@ put_high :
     → Put l at (decimal (x / 10)) l' m
     → Put l at (decimal x) (set l' m (digit (x % 10))) (m + 1)
 put_high {l} {at} {x} {l'} {m} high p =
-    rw (decimal_high x high) (put_then p (put_byte l' m (digit (x % 10))))
+    rw (decimal_high x high) (put_then_byte p (digit (x % 10)))
 
 -- the last digit has room
 room : {l : List ℕ} {at x : ℕ} {l' : List ℕ} {m : ℕ} → 10 ≤ x → x < 2 ^ 64 → Put l at (decimal (x / 10)) l' m → m + 1 ≤ at + 20

@@ -1,51 +1,34 @@
--- The definition asks for one digit and for the others behind it, so the loop keeps that what is left to ask from where it
--- stands gives the answer. A byte past the end reads as 0 and is no digit.
-use mathlib.Core.Bool.{Bool, false, true, ◌&&◌}
+-- Past the end stands no digit; within, the tests of the bytes that are asked for are those of the definition.
 use mathlib.Core.List.{List}
-use mathlib.Core.Path.{◌≡◌, refl, sym, ap, ◌∙◌}
-use Prim.Native.Nat.{ℕ, zero, suc, ◌+◌, ◌-◌, ◌<◌}
+use mathlib.Core.Path.{◌≡◌, sym, ap, ◌∙◌}
+use Prim.Native.Nat.{ℕ, ◌+◌, ◌-◌}
 use native.Mathlib.Omega.{arith}
-use lib.ListN.{get_or, get_or-eq_default}
-use Rattle.text.specs.Decimal.{is_digit, is_digit_or}
+use borrow.Author.Rules.{rules}
+use borrow.Author.Tests.{tests}
+use lib.ListN.{drop, take}
+use Rattle.std.proofs.lemmas.Iterator.{YieldsList-from_slice}
+use Rattle.std.proofs.lemmas.Iterator.Search.{all_from_yields_List}
+use Rattle.std.specs.List.{list_all}
 use Rattle.text.specs.Hex.{all_hex, is_hex}
+use Rattle.text.proofs.HexDigits.{all_hex_list, all_hex_past}
 use Rattle.text.proofs.hex.all_hex.Goals as goal
 
-next : (n : ℕ) (s : List ℕ) (k : ℕ) → 0 < n → all_hex n s k ≡ (is_hex (get_or s k 0) && all_hex (n - 1) s (k + 1))
+pub returns-then-n-eq0 : goal.returns-then-n-eq0
 unfolding all_hex
-next zero s k some = absurd (omega arith)
-next (suc n) s k some =
-    let others : n ≡ suc n - 1 = omega arith in
-    ap (λ (m : ℕ). is_hex (get_or s k 0) && all_hex m s (k + 1)) others
+returns-then-n-eq0 c = sym (ap (λ (n : ℕ). all_hex n c.args.s.now c.args.at) c.if-n-eq0.true)
 
--- in a turn, the byte at k is asked for
-by_byte :
-    (whole : Bool) (left : ℕ) (s : List ℕ) (k : ℕ) (b : Bool)
-    → whole ≡ all_hex left s k
-    → 0 < left
-    → is_hex (get_or s k 0) ≡ b
-    → whole ≡ (b && all_hex (left - 1) s (k + 1))
-by_byte whole left s k b stands some e =
-    stands ∙ next left s k some ∙ ap (λ (t : Bool). t && all_hex (left - 1) s (k + 1)) e
-
-pub loop-left-init : goal.loop-left-init
-loop-left-init c = refl
-
-pub returns-then-s-k : goal.returns-then-s-k
-unfolding is_hex is_digit_or is_digit
-returns-then-s-k c =
-    sym (by_byte _ c.loop-left.left c.args.s.now c.loop-left.k false c.loop-left.invariant c.loop-left-test.true (ap is_hex (get_or-eq_default c.args.s.now 0 c.if-s-k.true)))
-
-pub returns-then-not-is_hex_digit : goal.returns-then-not-is_hex_digit
-returns-then-not-is_hex_digit c =
-    sym (by_byte _ c.loop-left.left c.args.s.now c.loop-left.k false c.loop-left.invariant c.loop-left-test.true (sym c.is_hex_digit.ensures ∙ c.if-not-is_hex_digit.true))
-
-pub loop-left-preserved : goal.loop-left-preserved
-loop-left-preserved c =
-    by_byte _ c.loop-left.left c.args.s.now c.loop-left.k true c.loop-left.invariant c.loop-left-test.true (sym c.is_hex_digit.ensures ∙ c.if-not-is_hex_digit.false)
+pub returns-then-saturating_sub-n : goal.returns-then-saturating_sub-n
+returns-then-saturating_sub-n c = sym (all_hex_past c.args.n c.args.s.now c.args.at (omega arith))
 
 pub returns : goal.returns
-unfolding all_hex
 returns c =
-    let loop = c.loop-left in
-    let none : loop.left ≡ 0 = omega arith in
-    sym (loop.invariant ∙ ap (λ (m : ℕ). all_hex m c.args.s.now loop.k) none)
+    let s = c.args.s.now in
+    let at = c.args.at in
+    let n = c.args.n in
+    let asked : List ℕ = take (at + n - at) (drop at s) in
+    let many : at + n - at ≡ n = omega arith in
+    all_from_yields_List {all = asked} is_hex _ _ _ c.all.ensures.ran
+    (YieldsList-from_slice asked c.iter.ensures.rest)
+    (λ x b q k. search (rules, tests))
+    ∙ ap (λ (k : ℕ). list_all is_hex (take k (drop at s))) many
+    ∙ sym (all_hex_list n s at (omega arith))

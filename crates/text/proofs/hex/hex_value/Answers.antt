@@ -14,8 +14,9 @@ returns-then-c-lt97 c =
     let low = lt-ltb _ _ c.if-c-lt97.true in
     (simp low, simp low at (hex-digit _ c.requires).value)
 
-pub returns : goal.returns
+pub returns-else-c-lt97 : goal.returns-else-c-lt97
 unfolding hex_value
-returns c =
+returns-else-c-lt97 c =
     let high = le-ltb _ _ c.if-c-lt97.false in
-    (simp high, simp high at (hex-digit _ c.requires).value)
+    let below = simp high at (hex-digit _ c.requires).value in
+    (simp high (omega arith), omega arith)
