@@ -86,7 +86,7 @@ refused_by refusal None = done
 refused_by refusal (Some w) = Err (refusal w)
 
 module _ (refusal : WireNumber → Refusal) (limit n : ℕ) (a : List ℕ) where
-  refused_by-lowest : refused_by refusal (lowest_not_below limit a 0 n) ≡ limit_answer refusal limit n a done
+  pub refused_by-lowest : refused_by refusal (lowest_not_below limit a 0 n) ≡ limit_answer refusal limit n a done
   unfolding lowest_not_below limit_answer
   refused_by-lowest = failing.lowest-map _ _ (refused_by refusal) None 0 n
 
