@@ -85,7 +85,7 @@ returns-then-words-lt52 c =
     let p = c.requires in
     let a = c.args in
     let from = c.beginning-begin.ensures.0 ∙ ap (λ (m : MessageSpan). begins_at m a.i) c.message_of.ensures.0 in
-    let state = c.read_state.ensures _ c.in-Words.is in
+    let state = c.read_state.ensures _ c.in-Some.is in
     let at = c.block_first-first.ensures.0 in
     let told = c.expanded_words_agree-words.ensures in (
       omega (arith, told.0),
@@ -106,7 +106,7 @@ returns c =
     let p = c.requires in
     let a = c.args in
     let from = c.beginning-begin.ensures.0 ∙ ap (λ (m : MessageSpan). begins_at m a.i) c.message_of.ensures.0 in
-    let state = c.read_state.ensures _ c.in-Words.is in
+    let state = c.read_state.ensures _ c.in-Some.is in
     let at = c.block_first-first.ensures.0 in
     let told = c.expanded_words_agree-words.ensures in
     let words = told.1 _ (first_sixteen a.circuit a.i p.2 p.3 p.5 at from p.6 p.7 state) in
