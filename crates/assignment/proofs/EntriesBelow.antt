@@ -3,6 +3,7 @@
 use Rattle.refusal.specs.Refusals.{Outcome, done}
 use Rattle.std.specs.Prelude.{Err, Some, None, Option}
 use Rattle.std.proofs.Common.{◌≡◌, ℕ, ◌+◌, ◌-◌, ◌*◌, ◌<◌, ◌≤◌, ◌↔◌, List, length, sym, ap, ◌∙◌, subst, arith, lit<, below_none, below_more, ltb-true, le-ltb, lt-ltb}
+use Rattle.std.proofs.lemmas.Option.{none-some}
 use mathlib.Core.Logic.{by_cases}
 use native.Mathlib.Decide.{dec_lt}
 use lib.Bits.{and_le_l, and_le_r, bit_or, or_add_and}
@@ -32,11 +33,6 @@ one_seen {w} {i} {seen} {n} {bytes} e h =
     }
 
 -- The lowest entry that is not below the limit.
-
-found_some : (v : WireNumber) → Some v ≡ None → ⊥
-found_some v e =
-    let z : ◌≡◌ {A = ℕ} 0 1 = cc in
-    omega arith
 
 module _ (limit : ℕ) (bytes : List ℕ) where
   -- Of the wires from k on and below n.
@@ -69,13 +65,13 @@ module _ (limit : ℕ) (bytes : List ℕ) where
     pub run_below : lowest_not_below limit bytes k m ≡ None
         → lowest_not_below limit bytes k (n - k) ≡ lowest_not_below limit bytes (k + m) (n - (k + m))
     unfolding lowest_not_below
-    run_below e = failing.lowest-past _ _ None n k m l (failing.none_all _ _ None (λ w. found_some _) k m e)
+    run_below e = failing.lowest-past _ _ None n k m l (failing.none_all _ _ None (λ w e. none-some _ (sym e)) k m e)
 
     pub run_found : (v : WireNumber) → lowest_not_below limit bytes k m ≡ Some v → lowest_not_below limit bytes k (n - k) ≡ Some v
     unfolding lowest_not_below
     run_found v e =
         failing.lowest-parted _ _ None n k m l
-        ∙ failing.lowest_among _ _ None (λ w. found_some _) k m _ (λ none. found_some v (sym e ∙ none))
+        ∙ failing.lowest_among _ _ None (λ w e. none-some _ (sym e)) k m _ (λ none. none-some v (sym none ∙ e))
         ∙ e
 
 -- An answer that refuses the lowest entry that is not below a limit.

@@ -1,36 +1,29 @@
 -- The lowest row that is not satisfied is the lowest place at which the test of a row fails, so the laws of such a place are laws
--- of that row; and a verdict tells whether there is one.
-use Rattle.std.specs.Prelude.{Some, None, Option}
+-- of that row.
+use Rattle.std.specs.Prelude.{Some, None}
+use Rattle.std.proofs.lemmas.Option.{none-some}
 use mathlib.Core.Bool.{false, true}
 use mathlib.Core.Logic.{◌↔◌}
-use mathlib.Core.Path.{◌≡◌, ap, subst}
-use Prim.Native.Nat.{ℕ, suc, ◌+◌, ◌-◌, ◌<◌, ◌≤◌}
+use mathlib.Core.Path.{◌≡◌, subst, sym}
+use Prim.Native.Nat.{ℕ, ◌+◌, ◌-◌, ◌<◌, ◌≤◌}
 use native.Mathlib.Omega.{arith}
 use Rattle.encoding.proofs.Lowest as failing
 use Rattle.forms.specs.Rows.{Row, Satisfied, holds}
 use Rattle.refusal.specs.declared.numbers.RowNumber.{RowNumber}
 use Rattle.satisfaction.specs.Lowest.{LowestFailing, lowest}
 
--- which row a verdict names, counted from 1; 0 for none
-abbrev named : Option RowNumber → ℕ
-named None = 0
-named (Some k) = suc k.0
-
-apart : (j : ℕ) → Some (record { 0 = j }) ≡ None → ⊥
-apart j e = omega (arith, ap named e)
-
 module _ (a : ℕ → ℕ) (rows : ℕ → Row) where
   pub lowest_all : (k m : ℕ) → (lowest a rows k m ≡ None) ↔ ((i : ℕ) → k ≤ i → i < k + m → Satisfied a (rows i))
   unfolding lowest
-  lowest_all k m = (failing.none_all _ _ None apart k m, failing.lowest-none _ _ None k m)
+  lowest_all k m = (failing.none_all _ _ None (λ j e. none-some _ (sym e)) k m, failing.lowest-none _ _ None k m)
 
   pub lowest_failing_lem : (k m : ℕ) (j : RowNumber) → lowest a rows k m ≡ Some j → LowestFailing a rows k (k + m) j.0
   unfolding lowest
   lowest_failing_lem k m j =
       failing.by_lowest _ _ (λ v. v ≡ Some j → LowestFailing a rows k (k + m) j.0) None k m
-      (λ all e. absurd (omega (arith, ap named e)))
+      (λ all e. absurd (none-some _ e))
       (λ i low e.
-      let same : i ≡ j.0 = omega (arith, ap named e) in
+      let same : i ≡ j.0 = cc in
       subst (LowestFailing a rows k (k + m)) same low)
 
   -- of the rows from k on and below n, m hold: the lowest is one after them

@@ -1,6 +1,7 @@
 -- The eight words that are read are A to H, by their number.
-use Rattle.std.specs.Prelude.{Some, None}
-use Rattle.std.proofs.Common.{◌≡◌, ℕ, ◌+◌, ◌*◌, List, get_or, sym, subst, arith}
+use Rattle.std.specs.Prelude.{Some}
+use Rattle.std.proofs.lemmas.Option.{none-some}
+use Rattle.std.proofs.Common.{◌≡◌, ℕ, ◌+◌, ◌*◌, List, get_or, sym, subst}
 use Rattle.encoding.proofs.Tab.{get_or-tab}
 use Rattle.encoding.specs.Sequence.{tab}
 use Rattle.agreement.specs.Agrees.{BitsOf, BitsOfState, BitsOfWords}
@@ -32,13 +33,8 @@ eight-read {w} {x} {bytes} s e h =
           λ k l. subst (λ y. BitsOf (w + 32 * k) 32 y bytes) (sym (get_or-tab 8 (λ k. get_or x k 0) k 0 l)) (h.each k l);
     })
 
-not_words : (s : State) → None ≡ Some s → ⊥
-not_words s e =
-    let z : ◌≡◌ {A = ℕ} 0 1 = cc in
-    omega arith
-
 pub returns-then-not-read_words : goal.returns-then-not-read_words
-returns-then-not-read_words c = λ s e. absurd (not_words s e)
+returns-then-not-read_words c = λ s e. absurd (none-some s e)
 
 pub returns : goal.returns
 returns c =
