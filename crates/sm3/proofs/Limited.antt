@@ -1,5 +1,5 @@
 -- The digest asks the record's bytes before 22, and then its buffer.
-use Rattle.std.specs.Prelude.{Err, Ok}
+use Rattle.std.specs.Prelude.{Err}
 use Rattle.std.proofs.Common.{cond, ltb, length, refl}
 use Rattle.limits.proofs.Limited.{limited_operation, room_other}
 use Rattle.limits.proofs.handed.Asked.{asks_bytes}

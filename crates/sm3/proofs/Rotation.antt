@@ -6,7 +6,7 @@ use Rattle.std.proofs.Common.{◌≡◌, ℕ, suc, ◌+◌, ◌-◌, ◌*◌, �
 use native.Mathlib.Decide.{dec_lt}
 use native.Mathlib.Nat.{mul-add-div_right, mul-mod_left}
 use lib.Arith.{digits_lt}
-use lib.Bits.{block_odd, xor_lt}
+use lib.Bits.{bit_or, block_odd, or_shifted, xor_lt}
 use lib.Pow.{high, mod-pow-add, shl-shr, split}
 use Rattle.sm3.specs.Sm3.{◌⊕◌}
 use Rattle.sm3.specs.Words.{bit, rotate_left}
@@ -40,6 +40,17 @@ rotate_lt k x h l =
     let whole : 32 - k + k ≡ 32 = omega arith in
     subst₂ ◌<◌ (sym (rotate_parts k x h)) (sym (pow-add 2 (32 - k) k) ∙ ap (λ (n : ℕ). 2 ^ n) whole)
     (digits_lt (mod-lt x (pow_pos (32 - k))) (shr_word k x h l))
+
+-- what the library's rotation makes, by `|`: x moved up by k places has nothing below place k, and x moved down by 32 - k has nothing
+-- from there on
+pub turned : (x k : ℕ) → 0 < k → k < 32 → x < 2 ^ 32
+    → bit_or (x * 2 ^ (k % 32) % 2 ^ 32) (x / 2 ^ ((32 - k % 32) % 32)) ≡ rotate_left k x
+unfolding rotate_left
+turned x k pos h l =
+    let up : k % 32 ≡ k = omega arith in
+    let down : (32 - k % 32) % 32 ≡ 32 - k = omega arith in
+    ap₂ (λ (m n : ℕ). bit_or (x * 2 ^ m % 2 ^ 32) (x / 2 ^ n)) up down
+    ∙ rw (shl_word k x (omega arith)) (or_shifted (x % 2 ^ (32 - k)) k (x / 2 ^ (32 - k)) (shr_word k x (omega arith) l))
 
 -- a bit of the higher and of the lower part of a number
 bit_high : (a k m : ℕ) {b : ℕ} → b < 2 ^ k → (a * 2 ^ k + b) / 2 ^ (k + m) % 2 ≡ a / 2 ^ m % 2

@@ -1,5 +1,5 @@
 -- The answer of `digest` and the bytes that it leaves (document 01, "Refusals in checking order"; document 02, requests 2 and 8).
-use Rattle.std.specs.Prelude.{ℕ, cond, List, ◌++◌, drop, nat_lt, Err, Ok}
+use Rattle.std.specs.Prelude.{ℕ, cond, List, ◌++◌, drop, nat_lt, Err}
 use Rattle.limits.specs.Handed.{handed_answer}
 use Rattle.refusal.specs.Refusals.{left, Outcome, done}
 use Rattle.refusal.specs.declared.outcome.Refusal.TheVariants.{BufferTooShort}

@@ -147,6 +147,24 @@ xor_state s v =
 unfoldable pub block : (ℕ → ℕ) → State → State
 block bits v = xor_state (rounds (expansion bits 68) v 64) v
 
--- A to H by their number
+-- A to H as a list
+abbrev pub words_of : State → List ℕ
+words_of s = s.a ∷ s.b ∷ s.c ∷ s.d ∷ s.e ∷ s.f ∷ s.g ∷ s.h ∷ []
+
+-- .. by their number
 unfoldable pub word_of : State → ℕ → ℕ
-word_of s k = slice_index (s.a ∷ s.b ∷ s.c ∷ s.d ∷ s.e ∷ s.f ∷ s.g ∷ s.h ∷ []) k
+word_of s k = slice_index (words_of s) k
+
+-- A to H of a list of eight words
+abbrev pub state_of : List ℕ → State
+state_of words =
+    record {
+      a = slice_index words 0;
+      b = slice_index words 1;
+      c = slice_index words 2;
+      d = slice_index words 3;
+      e = slice_index words 4;
+      f = slice_index words 5;
+      g = slice_index words 6;
+      h = slice_index words 7;
+    }

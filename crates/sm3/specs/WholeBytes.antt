@@ -1,7 +1,7 @@
 -- Records of whole bytes (document 02, request 2: "a whole-byte record gives the rows it gave"). Here stands what document 01 says of
 -- a record of L bytes, in its own unit, and that it is what the definitions give for 8 L bits.
 use Rattle.refusal.specs.Refusals.{done}
-use Rattle.std.specs.Prelude.{◌≡◌, ℕ, ◌+◌, ◌-◌, ◌*◌, ◌/◌, cond, List, [], ◌∷◌, ◌++◌, length, nat_lt, Err, Ok}
+use Rattle.std.specs.Prelude.{◌≡◌, ℕ, ◌+◌, ◌-◌, ◌*◌, ◌/◌, cond, List, [], ◌∷◌, ◌++◌, length, nat_lt, Err}
 use Rattle.encoding.specs.Bits.{bit_of_bytes}
 use Rattle.encoding.specs.Bytes.{highest_first}
 use Rattle.encoding.specs.Sequence.{tab}

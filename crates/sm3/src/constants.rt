@@ -26,16 +26,7 @@ const ROTATED: [u32; 64] = [
 pub fn start_state() -> State
     ensures { result ≡ start }
 {
-    State {
-        a: START[0],
-        b: START[1],
-        c: START[2],
-        d: START[3],
-        e: START[4],
-        f: START[5],
-        g: START[6],
-        h: START[7],
-    }
+    State::from(START)
 }
 
 // T of all rounds, rotated: the table that is lent to every round.

@@ -17,14 +17,10 @@ fn put_digest(out: &mut [u8], s: State)
     requires { 32 ≤ length out.old }
     ensures { out.new ≡ bytes_of s ++ drop 32 out.old }
 {
-    put_word(out, 0, s.a);
-    put_word(out, 4, s.b);
-    put_word(out, 8, s.c);
-    put_word(out, 12, s.d);
-    put_word(out, 16, s.e);
-    put_word(out, 20, s.f);
-    put_word(out, 24, s.g);
-    put_word(out, 28, s.h);
+    let words = <[u32; 8]>::from(s);
+    for (k, word) in words.iter().enumerate() {
+        put_word(out, 4 * k, *word);
+    }
 }
 
 // The digest of a record of so many bits, and of no more blocks than the limit, into the first 32 bytes of `out`.

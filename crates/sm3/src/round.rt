@@ -1,21 +1,10 @@
 // One round of a block.
-ghost use Rattle.std.specs.Prelude.{◌≡◌, ◌+◌, ◌<◌, if◌then◌else◌, nat_lt};
+ghost use Rattle.std.specs.Prelude.{◌+◌, ◌<◌};
 ghost use Rattle.sm3.specs.Reached.{Reached};
-ghost use Rattle.sm3.specs.Sm3.{◌⊕◌};
 
 use crate::expansion::next_word;
 use crate::state::State;
-use crate::words::{choice_of, majority_of, p0, rotate_left, sum_of_3, sum_of_4};
-
-// FF or GG of round j: before round 16 the xor of three words, from there on `late`.
-fn ff_or_gg(j: usize, x: u32, y: u32, z: u32, late: u32) -> u32
-    ensures { result ≡ (if nat_lt j 16 then (x ⊕ y ⊕ z) else late) }
-{
-    if j < 16 {
-        return x ^ y ^ z;
-    }
-    late
-}
+use crate::words::{ff, gg, p0, rotate_left, sum_of_3, sum_of_4};
 
 // Round j on A to H, s, of a block of 64 bytes that begins with v, which only the contract names. W(j+4) is made on the way: W'j needs
 // it, and TT2 does not wait for it.
@@ -25,20 +14,10 @@ pub fn round(v: State, s: State, j: usize, bytes: &[u8], w: &mut [u32; 68], t: &
 {
     let a12 = rotate_left(s.a, 12);
     let ss1 = rotate_left(sum_of_3(a12, s.e, t[j]), 7);
-    let tt2 = sum_of_4(
-        ff_or_gg(j, s.e, s.f, s.g, choice_of(s.e, s.f, s.g)),
-        s.h,
-        ss1,
-        w[j],
-    );
+    let tt2 = sum_of_4(gg(j, s.e, s.f, s.g), s.h, ss1, w[j]);
     w[j + 4] = next_word(bytes, w, j + 4);
     let w_prime = w[j] ^ w[j + 4];
-    let tt1 = sum_of_4(
-        ff_or_gg(j, s.a, s.b, s.c, majority_of(s.a, s.b, s.c)),
-        s.d,
-        ss1 ^ a12,
-        w_prime,
-    );
+    let tt1 = sum_of_4(ff(j, s.a, s.b, s.c), s.d, ss1 ^ a12, w_prime);
     State {
         a: tt1,
         b: s.a,

@@ -1,9 +1,11 @@
 // The eight words A to H that a block works on.
 ghost use Rattle.std.specs.Prelude.{◌≡◌};
-ghost use Rattle.sm3.specs.Sm3.{xor_state};
+ghost use Rattle.sm3.specs.Sm3.{state_of, words_of, xor_state};
+
+use std::ops::BitXor;
 
 // A to H, in the standard's order.
-#[derive(Clone, Copy)]
+#[derive(Clone, Copy, Debug, PartialEq, Eq)]
 pub struct State {
     pub a: u32,
     pub b: u32,
@@ -15,18 +17,56 @@ pub struct State {
     pub h: u32,
 }
 
+impl From<[u32; 8]> for State {
+    ghost from_gives = { λ words s. s ≡ state_of words };
+
+    fn from(words: [u32; 8]) -> State {
+        let [a, b, c, d, e, f, g, h] = words;
+        State {
+            a,
+            b,
+            c,
+            d,
+            e,
+            f,
+            g,
+            h,
+        }
+    }
+}
+
+impl From<State> for [u32; 8] {
+    ghost from_gives = { λ s words. words ≡ words_of s };
+
+    fn from(s: State) -> [u32; 8] {
+        [s.a, s.b, s.c, s.d, s.e, s.f, s.g, s.h]
+    }
+}
+
+// Two states, word by word.
+impl BitXor for State {
+    type Output = State;
+
+    ghost bitxor_gives = { λ s v t. t ≡ xor_state s v };
+
+    #[tactic(auto, unfolding(crate::specs::Sm3::xor_state))]
+    fn bitxor(self, v: State) -> State {
+        State {
+            a: self.a ^ v.a,
+            b: self.b ^ v.b,
+            c: self.c ^ v.c,
+            d: self.d ^ v.d,
+            e: self.e ^ v.e,
+            f: self.f ^ v.f,
+            g: self.g ^ v.g,
+            h: self.h ^ v.h,
+        }
+    }
+}
+
 // Two states, word by word.
 pub fn xor_states(s: State, v: State) -> State
     ensures { result ≡ xor_state s v }
 {
-    State {
-        a: s.a ^ v.a,
-        b: s.b ^ v.b,
-        c: s.c ^ v.c,
-        d: s.d ^ v.d,
-        e: s.e ^ v.e,
-        f: s.f ^ v.f,
-        g: s.g ^ v.g,
-        h: s.h ^ v.h,
-    }
+    s ^ v
 }

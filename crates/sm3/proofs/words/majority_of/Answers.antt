@@ -38,5 +38,4 @@ module _ (x y z : ℕ) (hx : x < 2 ^ 32) (hy : y < 2 ^ 32) (hz : z < 2 ^ 32) whe
 
 pub returns : goal.returns
 returns c =
-    c.wrapping_add_u32.ensures.value
-    ∙ joined c.args.x c.args.y c.args.z c.ranges.x.fits c.ranges.y.fits c.ranges.z.fits
+    joined c.args.x c.args.y c.args.z c.ranges.x.fits c.ranges.y.fits c.ranges.z.fits
