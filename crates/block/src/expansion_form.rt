@@ -8,7 +8,7 @@ ghost use Rattle.forms.specs.Terms.{Fit};
 use crate::wire::{expanded_word, expansion_first, w_prime_word};
 use forms::form::Form;
 use forms::position::{rotated, word_from};
-use forms::word_form::{pair, permuted, xor_of_two};
+use forms::word_form::{OfThree, pair, permuted, xor_of_two};
 use refusal::numbers::WireNumber;
 
 // q = W(j-16) xor W(j-9) xor W(j-3)<<<15
@@ -20,7 +20,7 @@ pub fn q_form(first: WireNumber, j: u64, l: u64) -> Form
     let y = expanded_word(first, j - 9);
     let z = rotated(15, expanded_word(first, j - 3));
     let r = word_from(expansion_first(first, j));
-    pair(true, x, y, z, r, l)
+    pair(OfThree::Xor, x, y, z, r, l)
 }
 
 // P1(q)
@@ -42,7 +42,7 @@ pub fn w_form(first: WireNumber, j: u64, l: u64) -> Form
     let y = rotated(7, expanded_word(first, j - 13));
     let z = expanded_word(first, j - 6);
     let r = expanded_word(first, j);
-    pair(true, x, y, z, r, l)
+    pair(OfThree::Xor, x, y, z, r, l)
 }
 
 // W'j = Wj xor W(j+4)

@@ -9,7 +9,7 @@ use crate::wire;
 use crate::wire::{expanded_word, round_first, round_word, ss1_word, w_prime_word, word_before};
 use forms::form::{Addends, Form};
 use forms::position::rotated;
-use forms::word_form::{choice, pair, permuted, sum_bit, xor_of_two};
+use forms::word_form::{OfThree, choice, pair, permuted, sum_bit, xor_of_two};
 use refusal::numbers::WireNumber;
 use sm3::constants::rotated_constant;
 
@@ -29,13 +29,7 @@ pub fn u_form(first: WireNumber, begin: WireNumber, j: u64, l: u64) -> Form
     let y = word_before(first, begin, 4, j);
     let t = rotated_constant(j as usize);
     Form::Sum {
-        addends: Addends {
-            x,
-            y,
-            four: false,
-            z: x,
-            t: y,
-        },
+        addends: Addends { x, y, more: None },
         constant: t as u64,
         r,
     }
@@ -61,7 +55,10 @@ pub fn ff_form(first: WireNumber, begin: WireNumber, j: u64, l: u64) -> Form
     let y = word_before(first, begin, 1, j);
     let z = word_before(first, begin, 2, j);
     let r = round_word(first, j, wire::FF);
-    pair(j < 16, x, y, z, r, l)
+    if j < 16 {
+        return pair(OfThree::Xor, x, y, z, r, l);
+    }
+    pair(OfThree::Majority, x, y, z, r, l)
 }
 
 // GG of E, F and G
@@ -74,7 +71,7 @@ pub fn gg_form(first: WireNumber, begin: WireNumber, j: u64, l: u64) -> Form
     let z = word_before(first, begin, 6, j);
     let r = round_word(first, j, wire::GG);
     if j < 16 {
-        return pair(true, x, y, z, r, l);
+        return pair(OfThree::Xor, x, y, z, r, l);
     }
     choice(x, y, z, r, l)
 }
@@ -92,9 +89,7 @@ pub fn tt1_form(first: WireNumber, begin: WireNumber, j: u64, l: u64) -> Form
     let addends = Addends {
         x: round_word(first, j, wire::FF),
         y: word_before(first, begin, 3, j),
-        four: true,
-        z: round_word(first, j, wire::SS2),
-        t: w_prime_word(first, j),
+        more: Some((round_word(first, j, wire::SS2), w_prime_word(first, j))),
     };
     Form::Sum {
         addends,
@@ -116,9 +111,7 @@ pub fn tt2_form(first: WireNumber, begin: WireNumber, j: u64, l: u64) -> Form
     let addends = Addends {
         x: round_word(first, j, wire::GG),
         y: word_before(first, begin, 7, j),
-        four: true,
-        z: ss1_word(first, j),
-        t: expanded_word(first, j),
+        more: Some((ss1_word(first, j), expanded_word(first, j))),
     };
     Form::Sum {
         addends,

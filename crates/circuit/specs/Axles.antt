@@ -1,10 +1,11 @@
 -- What the circuit of axles between two bounds appends to a record's (document 02, request 5).
-use Rattle.std.specs.Prelude.{Bool, false, true, ◌&&◌, ℕ, ◌+◌, ◌*◌, leb}
+use Rattle.std.specs.Prelude.{Bool, ◌&&◌, ℕ, ◌+◌, ◌*◌, leb, None, Some}
 use Rattle.block.specs.Wires.{wires_per_block}
 use Rattle.circuit.specs.Frame.{first_block}
 use Rattle.encoding.specs.Sequence.{beside}
 use Rattle.forms.specs.WordForms.{subtracted}
 use Rattle.forms.specs.WordWires.{number_wires}
+use Rattle.forms.specs.declared.form.Bound.TheVariants.{Lower, Upper}
 use Rattle.forms.specs.declared.form.Digits.{Digits}
 use Rattle.forms.specs.declared.form.Form.TheVariants.{Fixed}
 use Rattle.forms.specs.declared.form.Form.{Form}
@@ -40,10 +41,10 @@ below_upper = above_lower + 7
 
 -- "A digit is its byte's low half."
 abbrev pub digit_of : ℕ → Digits
-digit_of byte = record { units = record { 0 = byte + 4 }; two = false; tens = record { 0 = byte + 4 } }
+digit_of byte = record { units = record { 0 = byte + 4 }; tens = None }
 
 abbrev pub axles : Digits
-axles = record { units = record { 0 = units_byte + 4 }; two = true; tens = record { 0 = tens_byte + 4 } }
+axles = record { units = record { 0 = units_byte + 4 }; tens = Some (record { 0 = tens_byte + 4 }) }
 
 -- "fixed rows holding the high half of both digit bytes, tens first, at 3"
 unfoldable pub high_half : ℕ → ℕ → Form
@@ -54,7 +55,7 @@ unfoldable pub axle_form : ℕ → ℕ → ℕ → Form
 axle_form lower upper =
     beside 4 (high_half tens_byte)
     (beside 4 (high_half units_byte)
-    (beside 5 (subtracted (digit_of tens_byte) false 9 4 tens_left)
-    (beside 5 (subtracted (digit_of units_byte) false 9 4 units_left)
-    (beside 8 (subtracted axles true lower 7 above_lower)
-    (subtracted axles false upper 7 below_upper)))))
+    (beside 5 (subtracted (digit_of tens_byte) (Upper 9) 4 tens_left)
+    (beside 5 (subtracted (digit_of units_byte) (Upper 9) 4 units_left)
+    (beside 8 (subtracted axles (Lower lower) 7 above_lower)
+    (subtracted axles (Upper upper) 7 below_upper)))))

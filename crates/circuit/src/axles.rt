@@ -3,7 +3,7 @@ ghost use Rattle.std.specs.Prelude.{◌≡◌, ◌<◌, ◌≤◌};
 ghost use Rattle.circuit.specs.Axles.{axle_form, axles, bounds_in_range, digit_of, high_half};
 ghost use Rattle.forms.specs.Terms.{Fit};
 
-use forms::form::{Digits, Form};
+use forms::form::{Bound, Digits, Form};
 use forms::word_form::subtracted;
 use refusal::numbers::WireNumber;
 
@@ -44,8 +44,7 @@ fn digit_of(byte: WireNumber) -> Digits
 {
     Digits {
         units: WireNumber(byte.0 + 4),
-        two: false,
-        tens: WireNumber(byte.0 + 4),
+        tens: None,
     }
 }
 
@@ -55,8 +54,7 @@ fn axle_digits() -> Digits
 {
     Digits {
         units: WireNumber(UNITS_BYTE + 4),
-        two: true,
-        tens: WireNumber(TENS_BYTE + 4),
+        tens: Some(WireNumber(TENS_BYTE + 4)),
     }
 }
 
@@ -87,20 +85,31 @@ pub fn axle_form(lower: u64, upper: u64, k: u64) -> Form
     }
     let k = k - 4;
     if k < 5 {
-        return subtracted(digit_of(tens), false, 9, 4, WireNumber(TENS_LEFT), k);
+        return subtracted(digit_of(tens), Bound::Upper(9), 4, WireNumber(TENS_LEFT), k);
     }
     let k = k - 5;
     if k < 5 {
-        return subtracted(digit_of(units), false, 9, 4, WireNumber(UNITS_LEFT), k);
+        return subtracted(
+            digit_of(units),
+            Bound::Upper(9),
+            4,
+            WireNumber(UNITS_LEFT),
+            k,
+        );
     }
     let k = k - 5;
     if k < 8 {
-        return subtracted(axle_digits(), true, lower, 7, WireNumber(ABOVE_LOWER), k);
+        return subtracted(
+            axle_digits(),
+            Bound::Lower(lower),
+            7,
+            WireNumber(ABOVE_LOWER),
+            k,
+        );
     }
     subtracted(
         axle_digits(),
-        false,
-        upper,
+        Bound::Upper(upper),
         7,
         WireNumber(BELOW_UPPER),
         k - 8,

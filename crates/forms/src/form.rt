@@ -1,34 +1,62 @@
 // The row forms, which name the wires of a row, and the terms of a row.
+ghost use Rattle.std.specs.Prelude.{◌≡◌};
+ghost use Rattle.forms.specs.Rows.{bound_value, is_lower};
+
 use crate::position::WordPosition;
 use refusal::numbers::WireNumber;
 
 // A wire and the residue of its coefficient modulo p.
-#[derive(Clone, Copy)]
+#[derive(Clone, Copy, Debug, PartialEq, Eq)]
 pub struct Term {
     pub wire: WireNumber,
     pub residue: u64,
 }
 
-// Two words, or four where `four` is true, that are added up.
-#[derive(Clone, Copy)]
+// Two words that are added up, and two more where there are four.
+#[derive(Clone, Copy, Debug, PartialEq, Eq)]
 pub struct Addends {
     pub x: WordPosition,
     pub y: WordPosition,
-    pub four: bool,
-    pub z: WordPosition,
-    pub t: WordPosition,
+    pub more: Option<(WordPosition, WordPosition)>,
 }
 
-// A digit on four wires, or where `two` is true a number of two digits, each from its highest bit on.
-#[derive(Clone, Copy)]
+// A digit on four wires, from its highest bit on, and where a number has two digits its tens.
+#[derive(Clone, Copy, Debug, PartialEq, Eq)]
 pub struct Digits {
     pub units: WireNumber,
-    pub two: bool,
-    pub tens: WireNumber,
+    pub tens: Option<WireNumber>,
+}
+
+// A bound on a number. What lies between them is the number less its lower bound, or its upper bound less the number.
+#[derive(Clone, Copy, Debug, PartialEq, Eq)]
+pub enum Bound {
+    Lower(u64),
+    Upper(u64),
+}
+
+impl Bound {
+    pub fn is_lower(self) -> bool
+        ensures { result ≡ is_lower self }
+    {
+        match self {
+            Bound::Lower(_) => true,
+            Bound::Upper(_) => false,
+        }
+    }
+
+    // The bound itself.
+    pub fn value(self) -> u64
+        ensures { result ≡ bound_value self }
+    {
+        match self {
+            Bound::Lower(k) => k,
+            Bound::Upper(k) => k,
+        }
+    }
 }
 
 // One row's equation, in the letters of the layout.
-#[derive(Clone, Copy)]
+#[derive(Clone, Copy, Debug, PartialEq, Eq)]
 pub enum Form {
     // w × 1 = bit
     Fixed {
@@ -77,12 +105,11 @@ pub enum Form {
         x: WireNumber,
         y: WireNumber,
     },
-    // (digits - bound - bits) × 1 = 0 where `above` is true, else (bound - digits - bits) × 1 = 0: the bits are `width` wires
-    // from r on
+    // (digits - bound - bits) × 1 = 0 of a lower bound, (bound - digits - bits) × 1 = 0 of an upper one: the bits are `width`
+    // wires from r on
     Difference {
         digits: Digits,
-        above: bool,
-        bound: u64,
+        bound: Bound,
         width: u64,
         r: WireNumber,
     },

@@ -6,7 +6,7 @@ ghost use Rattle.forms.specs.Positions.{at, rotated_by, standing, wire_at};
 use refusal::numbers::WireNumber;
 
 // The 32 wires of a word, rotated left by `rotation` bits: bit i, from the highest, is wire first + (i + rotation) mod 32.
-#[derive(Clone, Copy)]
+#[derive(Clone, Copy, Debug, PartialEq, Eq)]
 pub struct WordPosition {
     pub first: WireNumber,
     pub rotation: u64,

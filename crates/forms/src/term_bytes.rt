@@ -9,19 +9,17 @@ ghost use Rattle.forms.specs.Terms.{flat, term_at};
 ghost use Rattle.forms.specs.declared.form.Term.{Term};
 
 use crate::buffer::term_at;
-use crate::coefficient::{Signed, coefficient_of};
+use crate::coefficient::coefficient_of;
 use crate::form::Term;
 use encoding::write::put_number;
 
 // The number whose 8 bytes are those of the coefficient whose residue is k.
+#[tactic(auto, using(crate::proofs::term_bytes::TermBytes::coefficient_bytes))]
 fn coefficient_bits(k: u64) -> u64
     requires { k < p }
     ensures { least_first 8 result ≡ twos_complement 8 (signed k) }
 {
-    match coefficient_of(k) {
-        Signed::Plus(n) => n,
-        Signed::Minus(n) => std::num::wrapping_sub_u64(0, n),
-    }
+    coefficient_of(k).cast_unsigned()
 }
 
 // Writes the 12 bytes of a term from `at` on.

@@ -1,5 +1,5 @@
 // The terms of a row form, in a lent buffer of numbers.
-ghost use Rattle.std.specs.Prelude.{◌≡◌, ℕ, ◌+◌, ◌-◌, ◌*◌, ◌^◌, ◌<◌, ◌≤◌, [], ◌∷◌, ◌++◌, length};
+ghost use Rattle.std.specs.Prelude.{◌≡◌, ℕ, ◌+◌, ◌-◌, ◌*◌, ◌^◌, ◌<◌, ◌≤◌, [], ◌∷◌, ◌++◌, IfSome, length};
 ghost use Rattle.encoding.specs.Sequence.{tab};
 ghost use Rattle.encoding.specs.Written.{Written};
 ghost use Rattle.field.specs.Field.{p};
@@ -12,7 +12,7 @@ ghost use Rattle.forms.specs.Terms.{Filled, Fit, FitDifference, flat, term_count
 ghost use Rattle.forms.specs.declared.form.Form.TheVariants.{Bit, Choice, Difference, Equal, Fixed, Majority, Sum, XorOfThree, XorOfTwo};
 
 use crate::buffer::set_term;
-use crate::form::{Addends, Digits, Form, Term};
+use crate::form::{Addends, Bound, Digits, Form, Term};
 use crate::position::{WordPosition, wire_of_bit, wire_past};
 use field::P;
 use refusal::numbers::WireNumber;
@@ -28,7 +28,7 @@ const HIGH_CARRY: u64 = 8589934592;
 const LOW_CARRY: u64 = 4294967296;
 
 // How many terms A, B and C have.
-#[derive(Clone, Copy)]
+#[derive(Clone, Copy, Debug, PartialEq, Eq)]
 pub struct Counts {
     pub a: usize,
     pub b: usize,
@@ -101,27 +101,26 @@ fn push_taken(terms: &mut [u64], n: usize, r: WireNumber)
 
 // Writes the words that are added up; how many terms that is.
 fn push_addends(terms: &mut [u64], s: Addends) -> usize
-    requires { (256 ≤ length terms.old) × Within s.x × Within s.y × Within s.z × Within s.t }
+    requires { (256 ≤ length terms.old) × Within s.x × Within s.y × IfSome s.more (λ words. Within words.0 × Within words.1) }
     ensures { (result ≤ 128) × (result ≡ length (addend_terms s)) × Written 0 (flat (addend_terms s)) terms.old terms.new }
 {
     let x = s.x;
     push_word(terms, 0, x);
     let y = s.y;
     push_word(terms, 32, y);
-    let four = s.four;
-    if four {
-        let z = s.z;
-        push_word(terms, 64, z);
-        let t = s.t;
-        push_word(terms, 96, t);
-        return 128;
+    match s.more {
+        None => 64,
+        Some((z, t)) => {
+            push_word(terms, 64, z);
+            push_word(terms, 96, t);
+            128
+        }
     }
-    64
 }
 
 // Writes the words that are added up and the constant; how many terms that is.
 fn push_summands(terms: &mut [u64], s: Addends, constant: u64) -> usize
-    requires { (term_room ≤ length terms.old) × Within s.x × Within s.y × Within s.z × Within s.t }
+    requires { (term_room ≤ length terms.old) × Within s.x × Within s.y × IfSome s.more (λ words. Within words.0 × Within words.1) }
     ensures { (result ≤ 129) × (result ≡ length (addend_terms s ++ nonzero (constant · one ∷ []))) × Written 0 (flat (addend_terms s ++ nonzero (constant · one ∷ []))) terms.old terms.new }
 {
     let n = push_addends(terms, s);
@@ -157,18 +156,18 @@ fn push_number(terms: &mut [u64], n: usize, plus: bool, k: u64, width: u64, w: W
 
 // Writes one digit or two, put on or taken off; how many terms that is.
 fn push_digits(terms: &mut [u64], plus: bool, d: Digits) -> usize
-    requires { (16 ≤ length terms.old) × Small d.units.0 × Small d.tens.0 }
+    requires { (16 ≤ length terms.old) × Small d.units.0 × IfSome d.tens (λ w. Small w.0) }
     ensures { (result ≤ 8) × (result ≡ length (digit_terms plus d)) × Written 0 (flat (digit_terms plus d)) terms.old terms.new }
 {
     let units = d.units;
     push_number(terms, 0, plus, 1, 4, units);
-    let two = d.two;
-    if two {
-        let tens = d.tens;
-        push_number(terms, 4, plus, 10, 4, tens);
-        return 8;
+    match d.tens {
+        None => 4,
+        Some(tens) => {
+            push_number(terms, 4, plus, 10, 4, tens);
+            8
+        }
     }
-    4
 }
 
 // w × 1 = bit
@@ -293,16 +292,16 @@ fn fill_equal(terms: &mut [u64], x: WireNumber, y: WireNumber) -> Counts
 fn fill_difference(
     terms: &mut [u64],
     digits: Digits,
-    above: bool,
-    bound: u64,
+    bound: Bound,
     width: u64,
     r: WireNumber,
 ) -> Counts
     requires { (term_room ≤ length terms.old) × FitDifference digits bound width r }
-    ensures { Filled (unsorted (Difference digits above bound width r)) result terms.old terms.new }
+    ensures { Filled (unsorted (Difference digits bound width r)) result terms.old terms.new }
 {
-    let n = push_digits(terms, above, digits);
-    push(terms, n, WireNumber(0), with_sign(!above, bound));
+    let lower = bound.is_lower();
+    let n = push_digits(terms, lower, digits);
+    push(terms, n, WireNumber(0), with_sign(!lower, bound.value()));
     push_number(terms, n + 1, false, 1, width, r);
     let a = n + 1 + width as usize;
     push(terms, a, WireNumber(0), 1);
@@ -329,10 +328,9 @@ pub fn fill(form: Form, terms: &mut [u64]) -> Counts
         Form::Equal { x, y } => fill_equal(terms, x, y),
         Form::Difference {
             digits,
-            above,
             bound,
             width,
             r,
-        } => fill_difference(terms, digits, above, bound, width, r),
+        } => fill_difference(terms, digits, bound, width, r),
     }
 }

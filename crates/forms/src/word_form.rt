@@ -1,14 +1,14 @@
 // The forms of the rows that make a word: line l of the rows whose result stands at r.
-ghost use Rattle.std.specs.Prelude.{◌≡◌, ℕ, ◌<◌, if◌then◌else◌};
+ghost use Rattle.std.specs.Prelude.{◌≡◌, ℕ, ◌<◌};
 ghost use Rattle.forms.specs.Bounds.{Small, Within};
 ghost use Rattle.forms.specs.Positions.{rotated_by, standing};
 ghost use Rattle.forms.specs.Terms.{Fit, FitDifference};
-ghost use Rattle.forms.specs.WordForms.{choice_of, paired, summed, xor_of_two};
+ghost use Rattle.forms.specs.WordForms.{choice_of, of_three, paired, summed, xor_of_two};
 ghost use Rattle.forms.specs.WordForms as words;
 ghost use Rattle.forms.specs.declared.form.Addends.{Addends};
-ghost use Rattle.forms.specs.declared.form.Form.TheVariants.{Majority, XorOfThree};
+ghost use Rattle.forms.specs.declared.form.Form.TheVariants.{XorOfThree};
 
-use crate::form::{Digits, Form};
+use crate::form::{Bound, Digits, Form};
 use crate::position::{WordPosition, rotated, wire_of_bit, word_from};
 use refusal::numbers::WireNumber;
 
@@ -37,9 +37,16 @@ pub fn choice(x: WordPosition, y: WordPosition, z: WordPosition, r: WordPosition
     }
 }
 
-// r is the xor of x, y and z, or else their majority. Each position has the bit row of r and then the equation.
+// What a word is made of three others by, bit by bit.
+#[derive(Clone, Copy, Debug, PartialEq, Eq)]
+pub enum OfThree {
+    Xor,
+    Majority,
+}
+
+// r is the xor of x, y and z, or their majority. Each position has the bit row of r and then the equation.
 pub fn pair(
-    xor: bool,
+    of: OfThree,
     x: WordPosition,
     y: WordPosition,
     z: WordPosition,
@@ -47,29 +54,19 @@ pub fn pair(
     l: u64,
 ) -> Form
     requires { Within x × Within y × Within z × Within r × (l < 64) }
-    ensures { (result ≡ paired (if xor then XorOfThree else Majority) x y z r l) × Fit result }
+    ensures { (result ≡ paired (of_three of) x y z r l) × Fit result }
 {
     let i = l / 2;
-    let rw = wire_of_bit(r, i);
+    let r = wire_of_bit(r, i);
     if l % 2 == 0 {
-        return Form::Bit { w: rw };
+        return Form::Bit { w: r };
     }
-    let xw = wire_of_bit(x, i);
-    let yw = wire_of_bit(y, i);
-    let zw = wire_of_bit(z, i);
-    if xor {
-        return Form::XorOfThree {
-            x: xw,
-            y: yw,
-            z: zw,
-            r: rw,
-        };
-    }
-    Form::Majority {
-        x: xw,
-        y: yw,
-        z: zw,
-        r: rw,
+    let x = wire_of_bit(x, i);
+    let y = wire_of_bit(y, i);
+    let z = wire_of_bit(z, i);
+    match of {
+        OfThree::Xor => Form::XorOfThree { x, y, z, r },
+        OfThree::Majority => Form::Majority { x, y, z, r },
     }
 }
 
@@ -92,20 +89,13 @@ pub fn permuted(from: WireNumber, near: u64, far: u64, to: WireNumber, l: u64) -
     let y = rotated(near, x);
     let z = rotated(far, x);
     let r = word_from(to);
-    pair(true, x, y, z, r, l)
+    pair(OfThree::Xor, x, y, z, r, l)
 }
 
-// The bits from r on are the digits less the bound where `above` is true, else the bound less the digits.
-pub fn subtracted(
-    digits: Digits,
-    above: bool,
-    bound: u64,
-    width: u64,
-    r: WireNumber,
-    l: u64,
-) -> Form
+// The bits from r on are what lies between the digits and their bound.
+pub fn subtracted(digits: Digits, bound: Bound, width: u64, r: WireNumber, l: u64) -> Form
     requires { FitDifference digits bound width r × Small l }
-    ensures { (result ≡ words.subtracted digits above bound width r.0 l) × Fit result }
+    ensures { (result ≡ words.subtracted digits bound width r.0 l) × Fit result }
 {
     if l < width {
         return Form::Bit {
@@ -114,7 +104,6 @@ pub fn subtracted(
     }
     Form::Difference {
         digits,
-        above,
         bound,
         width,
         r,

@@ -40,4 +40,4 @@ form_place (Majority x y z r) = 34
 form_place (Choice x y z r) = 43
 form_place (Sum s k r) = 50
 form_place (Equal x y) = 54
-form_place (Difference d above bound n r) = 50
+form_place (Difference d bound n r) = 50

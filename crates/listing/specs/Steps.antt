@@ -61,7 +61,7 @@ form_text (Choice x y z r) = ascii "choice\n"
 form_text (Sum s k r) = ascii "sum\n"
 form_text (Equal x y) = ascii "equal\n"
 -- document 02, request 5: "a sum row of value minus bits"
-form_text (Difference d above bound n r) = ascii "sum\n"
+form_text (Difference d bound n r) = ascii "sum\n"
 
 -- a number that may be left out, and the byte after it
 unfoldable pub optional : Bool → ℕ → ℕ → List ℕ

@@ -101,7 +101,6 @@ fn form_place(form: Form) -> usize
         Form::Equal { x: _, y: _ } => 54,
         Form::Difference {
             digits: _,
-            above: _,
             bound: _,
             width: _,
             r: _,

@@ -14,7 +14,7 @@ ghost use Rattle.text.specs.Text.{line_feed};
 use circuit::circuits::Circuit;
 use circuit::row::row_terms;
 use forms::buffer::term_at;
-use forms::coefficient::{Signed, coefficient_of};
+use forms::coefficient::coefficient_of;
 use forms::form::Term;
 use refusal::numbers::RowNumber;
 use text::decimal::put_field;
@@ -23,17 +23,18 @@ use text::decimal::put_field;
 pub const ROW_ROOM: usize = 163 * 66;
 
 // The coefficient whose residue is k, and the end of the line.
+#[tactic(auto, unfolding(text::specs::Decimal::signed_field))]
 fn put_coefficient(out: &mut [u8], at: usize, k: u64) -> usize
     requires { (at + 22 ≤ length out.old) × (k < p) }
     ensures { Put out.old at (signed_field (signed k) line_feed) out.new result × (result ≤ at + 22) }
 {
-    match coefficient_of(k) {
-        Signed::Plus(n) => put_field(out, at, n, b'\n'),
-        Signed::Minus(n) => {
-            out[at] = b'-';
-            put_field(out, at + 1, n, b'\n')
-        }
+    let coefficient = coefficient_of(k);
+    let magnitude = coefficient.unsigned_abs();
+    if coefficient < 0 {
+        out[at] = b'-';
+        return put_field(out, at + 1, magnitude, b'\n');
     }
+    put_field(out, at, magnitude, b'\n')
 }
 
 // The line of a term.

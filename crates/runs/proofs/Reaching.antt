@@ -16,4 +16,4 @@ apart_reached m n (Majority x y z r) e h = (omega (arith, h.within), omega (arit
 apart_reached m n (Choice x y z r) e h = (omega (arith, h.within), omega (arith, h.within), omega (arith, h.within), omega (arith, h.within))
 apart_reached m n (Sum s c r) e h = tt
 apart_reached m n (Equal x y) e h = (omega (arith, h.within), omega (arith, h.within))
-apart_reached m n (Difference d above bound bits r) e h = tt
+apart_reached m n (Difference d bound bits r) e h = tt

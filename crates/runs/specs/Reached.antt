@@ -13,4 +13,4 @@ Reached n (Majority x y z r) = (8 * x.0 + 8 ≤ n) × (8 * y.0 + 8 ≤ n) × (8 
 Reached n (Choice x y z r) = (8 * x.0 + 8 ≤ n) × (8 * y.0 + 8 ≤ n) × (8 * z.0 + 8 ≤ n) × (8 * r.0 + 8 ≤ n)
 Reached n (Sum s c r) = Unit {0}
 Reached n (Equal x y) = (8 * x.0 + 8 ≤ n) × (8 * y.0 + 8 ≤ n)
-Reached n (Difference d above bound bits r) = Unit {0}
+Reached n (Difference d bound bits r) = Unit {0}

@@ -152,18 +152,8 @@ pub fn form_holds(assignment: &[u8], form: Form) -> bool
         Form::XorOfThree { x, y, z, r } => xor_three_holds(assignment, x, y, z, r),
         Form::Majority { x, y, z, r } => majority_holds(assignment, x, y, z, r),
         Form::Choice { x, y, z, r } => choice_holds(assignment, x, y, z, r),
-        Form::Sum {
-            addends: _,
-            constant: _,
-            r: _,
-        } => false,
+        Form::Sum { .. } => false,
         Form::Equal { x, y } => equal_holds(assignment, x, y),
-        Form::Difference {
-            digits: _,
-            above: _,
-            bound: _,
-            width: _,
-            r: _,
-        } => false,
+        Form::Difference { .. } => false,
     }
 }

@@ -1,7 +1,7 @@
 -- The appended rows, where the digit bytes stand on their wires as the record r has them. The fixed rows hold where both high halves are 3; each
 -- number's rows hold where the number is not negative and its wires are its bits. All of it together says that the record lies in the band
 -- and that the appended wires are its own.
-use mathlib.Core.Bool.{Bool, cond, false, true}
+use mathlib.Core.Bool.{cond}
 use mathlib.Core.Logic.Iff
 use mathlib.Core.Logic.{◌↔◌}
 use mathlib.Core.Path.{◌≡◌, ◌∙◌, ap, subst}
@@ -18,9 +18,11 @@ use Rattle.forms.proofs.exact.Differences.{difference_run, digits_on, number_on}
 use Rattle.forms.proofs.exact.Parts.{agree_beside}
 use Rattle.forms.proofs.exact.Runs.{Agree, Holds, Judged, and_given}
 use Rattle.forms.proofs.exact.Words.{fixed_row}
-use Rattle.forms.specs.Rows.{Satisfied, row_of}
+use Rattle.forms.specs.Rows.{Satisfied, bound_value, is_lower, row_of}
 use Rattle.forms.specs.WordForms.{subtracted}
 use Rattle.forms.specs.WordWires.{number_wires}
+use Rattle.forms.specs.declared.form.Bound.TheVariants.{Lower, Upper}
+use Rattle.forms.specs.declared.form.Bound.{Bound}
 use Rattle.forms.specs.declared.form.Digits.{Digits}
 use Rattle.forms.specs.declared.form.Form.{Form}
 
@@ -62,19 +64,19 @@ module _ (a : ℕ → ℕ) (J : Judged a) (r : ℕ → ℕ) (bits : (k : ℕ) �
       (fixed_row a J (byte + l) (number_wires 4 3 l) (number-wire_lt 4 3 l)))
 
   -- the rows of a number, where the digits are x
-  number_rows : (d : Digits) (x : ℕ) → digits_on a d ≡ x → x < 256 → (bound n : ℕ) → bound ≤ 99 → n ≤ 7 → (above : Bool) (w : ℕ)
-      → (Holds a (n + 1) (subtracted d above bound n w)
-      ↔ ((cond above bound x ≤ cond above x bound)
-      × (cond above x bound - cond above bound x < 2 ^ n)
-      × Agree a w n (number_wires n (cond above x bound - cond above bound x))))
-  number_rows d x e small bound n low short above w =
+  number_rows : (d : Digits) (x : ℕ) → digits_on a d ≡ x → x < 256 → (b : Bound) → bound_value b ≤ 99 → (n : ℕ) → n ≤ 7 → (w : ℕ)
+      → (Holds a (n + 1) (subtracted d b n w)
+      ↔ ((cond (is_lower b) (bound_value b) x ≤ cond (is_lower b) x (bound_value b))
+      × (cond (is_lower b) x (bound_value b) - cond (is_lower b) (bound_value b) x < 2 ^ n)
+      × Agree a w n (number_wires n (cond (is_lower b) x (bound_value b) - cond (is_lower b) (bound_value b) x))))
+  number_rows d x e small b low n short w =
       subst
-      (λ (y : ℕ). Holds a (n + 1) (subtracted d above bound n w)
-      ↔ ((cond above bound y ≤ cond above y bound)
-      × (cond above y bound - cond above bound y < 2 ^ n)
-      × Agree a w n (number_wires n (cond above y bound - cond above bound y))))
+      (λ (y : ℕ). Holds a (n + 1) (subtracted d b n w)
+      ↔ ((cond (is_lower b) (bound_value b) y ≤ cond (is_lower b) y (bound_value b))
+      × (cond (is_lower b) y (bound_value b) - cond (is_lower b) (bound_value b) y < 2 ^ n)
+      × Agree a w n (number_wires n (cond (is_lower b) y (bound_value b) - cond (is_lower b) (bound_value b) y))))
       e
-      (difference_run a J d bound n (omega arith) (omega arith) short above w)
+      (difference_run a J d n (omega arith) short b (omega arith) w)
 
   pub appended-run : (lower upper : ℕ) → lower ≤ 99 → upper ≤ 99
       → (Holds a 34 (axle_form lower upper) ↔ (BandBits lower upper r × Agree a tens_left 22 (appended lower upper r)))
@@ -93,10 +95,10 @@ module _ (a : ℕ → ℕ) (J : Judged a) (r : ℕ → ℕ) (bits : (k : ℕ) �
       let other : digits_on a (digit_of units_byte) ≡ units r = omega (arith, units_on) in
       let t : tens r < 16 = digit_lt tens_place in
       let u : units r < 16 = digit_lt units_place in
-      let nine = number_rows (digit_of tens_byte) (tens r) one (omega arith) 9 4 (lit≤ tt) (lit≤ tt) false tens_left in
-      let nine' = number_rows (digit_of units_byte) (units r) other (omega arith) 9 4 (lit≤ tt) (lit≤ tt) false units_left in
-      let least = number_rows axles (axles_of r) both (omega arith) lower 7 hl (lit≤ tt) true above_lower in
-      let most = number_rows axles (axles_of r) both (omega arith) upper 7 hu (lit≤ tt) false below_upper in
+      let nine = number_rows (digit_of tens_byte) (tens r) one (omega arith) (Upper 9) (lit≤ tt) 4 (lit≤ tt) tens_left in
+      let nine' = number_rows (digit_of units_byte) (units r) other (omega arith) (Upper 9) (lit≤ tt) 4 (lit≤ tt) units_left in
+      let least = number_rows axles (axles_of r) both (omega arith) (Lower lower) hl 7 (lit≤ tt) above_lower in
+      let most = number_rows axles (axles_of r) both (omega arith) (Upper upper) hu 7 (lit≤ tt) below_upper in
       Iff.trans (each_beside satisfied 4 30 _ _)
       (Iff.trans
       (and_given first

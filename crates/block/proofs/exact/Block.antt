@@ -1,7 +1,6 @@
 -- A block's rows hold exactly where its wires agree. The words that it begins with are carried and its 512 bits agree; then
 -- come the expansion, the words W', the rounds and the results, each given those before it. So the rows up to some word of the
 -- expansion, up to some W' or up to some round hold where the wires before it agree, whatever the later ones are.
-use Rattle.refusal.specs.Refusals.{done}
 use mathlib.Core.Logic.{◌↔◌}
 use mathlib.Core.Path.{subst, sym}
 use Prim.Native.Nat.{ℕ, ◌+◌, ◌*◌, ◌<◌, ◌≤◌}

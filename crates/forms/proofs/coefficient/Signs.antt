@@ -1,16 +1,12 @@
 -- The signed number of a residue on either side of (p - 1) / 2. Up to there it is the residue itself; above, it is minus what the
--- residue lacks of p, which is at most (p - 1) / 2 and not 0. So no residue but 0 has the coefficient 0, and none is out of range. A number
--- held by its sign and magnitude is told by them.
-use Rattle.std.proofs.Common.{◌≡◌, ℕ, zero, suc, ◌-◌, ◌<◌, ◌≤◌, Bool, true, false, leb, ℤ, pos, negsuc, neg_ℤ, nat_abs, sym, refl, ap, true≢false, arith, le→leb, lt-ltb, le-leb, leb-false, leb-true}
+-- residue lacks of p, which is at most (p - 1) / 2 and not 0. So no residue but 0 has the coefficient 0, and none is out of range.
+use Rattle.std.proofs.Common.{◌≡◌, ℕ, zero, suc, ◌-◌, ◌<◌, ◌≤◌, Bool, true, false, leb, pos, neg_ℤ, nat_abs, sym, refl, ap, arith, le→leb, lt-ltb, le-leb, leb-false, leb-true}
 use borrow.Author.Tests.{lt-leb}
 use lib.IntN.{pos-ne-negsuc}
 use lib.Signed.{le_z_yes}
 use Rattle.field.specs.Field.{p}
 use Rattle.forms.specs.Coefficients.{half, signed}
 use Rattle.forms.specs.Shape.{InRange}
-use Rattle.forms.specs.Terms.{sign_and_magnitude}
-use Rattle.forms.specs.declared.coefficient.Signed.TheVariants.{Minus, Plus}
-use Rattle.forms.specs.declared.coefficient.Signed.{Signed}
 
 pub signed_low : (k : ℕ) → k ≤ half → signed k ≡ pos k
 unfolding signed
@@ -21,24 +17,6 @@ unfolding signed
 signed_high k h l =
     let rest : p - k ≡ suc (p - suc k) = omega arith in
     rw (lt-leb k half h, lt-ltb k p l) (sym (ap (λ (n : ℕ). neg_ℤ (pos n)) rest))
-
--- what a number is where its sign is known
-
-abbrev is_minus : Signed → Bool
-is_minus (Plus n) = false
-is_minus (Minus n) = true
-
-abbrev magnitude : Signed → ℕ
-magnitude (Plus n) = n
-magnitude (Minus n) = n
-
-pub plus_is : (z : ℤ) (n : ℕ) → Plus n ≡ sign_and_magnitude z → z ≡ pos n
-plus_is (pos m) n e = ap pos (sym (ap magnitude e))
-plus_is (negsuc m) n e = absurd (true≢false (sym (ap is_minus e)))
-
-pub minus_is : (z : ℤ) (n : ℕ) → Minus n ≡ sign_and_magnitude z → (m : ℕ) × (n ≡ suc m) × (z ≡ negsuc m)
-minus_is (pos m) n e = absurd (true≢false (ap is_minus e))
-minus_is (negsuc m) n e = (m, ap magnitude e, refl)
 
 positive_in_range : (k : ℕ) → 1 ≤ k → k ≤ half → InRange (pos k)
 positive_in_range k some most =

@@ -1,7 +1,7 @@
 -- A difference's row and its bits. The row's value is the greater number less the lesser and less the number that the bits write, all far
 -- below p; so the row holds where the greater is the sum of the two. And bits write a number exactly where they are its bits, so rows and
 -- bits agree only where the greater number is no less than the other and their difference has room.
-use Rattle.std.proofs.Common.{◌≡◌, ℕ, zero, suc, ◌+◌, ◌-◌, ◌*◌, ◌/◌, ◌%◌, ◌^◌, ◌<◌, ◌≤◌, Bool, true, false, cond, ◌↔◌, [], ◌∷◌, ◌++◌, sym, ap, ◌∙◌, ap₂, add-zero, mod-eq_of_lt, mul_assoc, mul-one, mul-add, arith, lit≤, pow_mono}
+use Rattle.std.proofs.Common.{◌≡◌, ℕ, zero, suc, ◌+◌, ◌-◌, ◌*◌, ◌/◌, ◌%◌, ◌^◌, ◌<◌, ◌≤◌, Bool, true, false, cond, ◌↔◌, [], ◌∷◌, ◌++◌, None, Option, Some, sym, ap, ◌∙◌, ap₂, add-zero, mod-eq_of_lt, mul_assoc, mul-one, mul-add, arith, lit≤, pow_mono}
 use mathlib.Core.Logic.Iff
 use Rattle.encoding.proofs.Bits.{bit_of-number, number_cong, number_lt, number_of-bits}
 use Rattle.encoding.proofs.Sequence.{Each, each_beside, each_iff, each_one}
@@ -14,9 +14,11 @@ use Rattle.forms.proofs.exact.Values.{row-letters, value-append, value-less, val
 use Rattle.forms.proofs.terms.DifferenceTerms.{few, weight_few}
 use Rattle.forms.specs.Positions.{at, one}
 use Rattle.forms.specs.Former.{former_value}
-use Rattle.forms.specs.Rows.{Satisfied, ◌·◌, digit_terms, letters, number_terms, row_of, with_sign}
+use Rattle.forms.specs.Rows.{Satisfied, ◌·◌, bound_value, digit_terms, is_lower, letters, number_terms, row_of, tens_terms, with_sign}
 use Rattle.forms.specs.WordForms.{subtracted}
 use Rattle.forms.specs.WordWires.{number_wires}
+use Rattle.forms.specs.declared.form.Bound.TheVariants.{Lower, Upper}
+use Rattle.forms.specs.declared.form.Bound.{Bound}
 use Rattle.forms.specs.declared.form.Digits.{Digits}
 use Rattle.forms.specs.declared.form.Form.TheVariants.{Bit, Difference}
 use Rattle.refusal.specs.declared.numbers.WireNumber.{WireNumber}
@@ -40,8 +42,12 @@ module _ (a : ℕ → ℕ) where
   abbrev pub number_on : ℕ → WireNumber → ℕ
   number_on n w = number n (λ i. a (w.0 + i))
 
+  abbrev pub tens_on : Option WireNumber → ℕ
+  tens_on None = 0
+  tens_on (Some w) = 10 * number_on 4 w
+
   abbrev pub digits_on : Digits → ℕ
-  digits_on d = number_on 4 d.units + cond d.two (10 * number_on 4 d.tens) 0
+  digits_on d = number_on 4 d.units + tens_on d.tens
 
   value-times : (n k : ℕ) (c : ℕ → ℕ) (w : ℕ → WireNumber)
       → former_value a (tab n (λ i. (k * c i) · w i)) ≡ k * former_value a (tab n (λ i. c i · w i))
@@ -75,42 +81,41 @@ module _ (a : ℕ → ℕ) where
 
   value-digits : (plus : Bool) (d : Digits) → DigitsValue plus d
   unfolding digit_terms former_value DigitsValue
-  value-digits true d = value-append a (number_terms true 1 4 d.units) (cond d.two (number_terms true 10 4 d.tens) []) ∙ more d.two
+  value-digits true d = value-append a (number_terms true 1 4 d.units) (tens_terms true d.tens) ∙ more d.tens
     where
-      more : (b : Bool) → former_value a (number_terms true 1 4 d.units) + former_value a (cond b (number_terms true 10 4 d.tens) [])
-          ≡ number_on 4 d.units + cond b (10 * number_on 4 d.tens) 0
-      more true = omega (arith, value-number 1 4 d.units, value-number 10 4 d.tens)
-      more false = omega (arith, value-number 1 4 d.units)
-  value-digits false d = more d.two
+      more : (tens : Option WireNumber) → former_value a (number_terms true 1 4 d.units) + former_value a (tens_terms true tens)
+          ≡ number_on 4 d.units + tens_on tens
+      more (Some w) = omega (arith, value-number 1 4 d.units, value-number 10 4 w)
+      more None = omega (arith, value-number 1 4 d.units)
+  value-digits false d = more d.tens
     where
-      more : (b : Bool)
-          → (former_value a (number_terms false 1 4 d.units ++ cond b (number_terms false 10 4 d.tens) [])
-          + (number_on 4 d.units + cond b (10 * number_on 4 d.tens) 0)) % p ≡ 0
-      more true =
+      more : (tens : Option WireNumber)
+          → (former_value a (number_terms false 1 4 d.units ++ tens_terms false tens) + (number_on 4 d.units + tens_on tens)) % p ≡ 0
+      more (Some w) =
           omega (
             arith,
-            value-append a (number_terms false 1 4 d.units) (number_terms false 10 4 d.tens),
+            value-append a (number_terms false 1 4 d.units) (number_terms false 10 4 w),
             value-number-less 1 4 d.units (lit≤ tt) (lit≤ tt),
-            value-number-less 10 4 d.tens (lit≤ tt) (lit≤ tt),
+            value-number-less 10 4 w (lit≤ tt) (lit≤ tt),
           )
-      more false =
+      more None =
           omega (arith, value-append a (number_terms false 1 4 d.units) [], value-number-less 1 4 d.units (lit≤ tt) (lit≤ tt))
 
   -- the number that is taken off, and the one that it is taken off from
-  abbrev pub lesser : Bool → ℕ → Digits → ℕ
-  lesser above bound d = cond above bound (digits_on d)
+  abbrev pub lesser : Bound → Digits → ℕ
+  lesser bound d = cond (is_lower bound) (bound_value bound) (digits_on d)
 
-  abbrev pub greater : Bool → ℕ → Digits → ℕ
-  greater above bound d = cond above (digits_on d) bound
+  abbrev pub greater : Bound → Digits → ℕ
+  greater bound d = cond (is_lower bound) (digits_on d) (bound_value bound)
 
-  module _ (J : Judged a) (d : Digits) (bound n : ℕ) (small : digits_on d < 2 ^ 32) (low : bound < 2 ^ 32) (short : n ≤ 7) where
-    difference_row : (above : Bool) (r : WireNumber) → number_on n r < 2 ^ 32
-        → (Satisfied a (row_of (Difference d above bound n r)) ↔ (greater above bound d ≡ lesser above bound d + number_on n r))
+  module _ (J : Judged a) (d : Digits) (n : ℕ) (small : digits_on d < 2 ^ 32) (short : n ≤ 7) where
+    difference_row : (b : Bound) → bound_value b < 2 ^ 32 → (r : WireNumber) → number_on n r < 2 ^ 32
+        → (Satisfied a (row_of (Difference d b n r)) ↔ (greater b d ≡ lesser b d + number_on n r))
     unfolding letters former_value DigitsValue
-    difference_row true r hn =
+    difference_row (Lower bound) low r hn =
         let bits = number_terms false 1 n r in
         let off : (former_value a bits + 1 * number_on n r) % p ≡ 0 = value-number-less 1 n r (lit≤ tt) short in
-        Iff.trans (row-letters a (Difference d true bound n r))
+        Iff.trans (row-letters a (Difference d (Lower bound) n r))
         (rw J.one
         (balance _ 0 (digits_on d) (bound + number_on n r) 0 (1 + (former_value a bits + number_on n r) / p) (omega arith) (omega arith)
         (omega (
@@ -121,11 +126,11 @@ module _ (a : ℕ → ℕ) where
           value-digits true d,
           off,
         ))))
-    difference_row false r hn =
+    difference_row (Upper bound) low r hn =
         let bits = number_terms false 1 n r in
         let digits = former_value a (digit_terms false d) in
         let off : (former_value a bits + 1 * number_on n r) % p ≡ 0 = value-number-less 1 n r (lit≤ tt) short in
-        Iff.trans (row-letters a (Difference d false bound n r))
+        Iff.trans (row-letters a (Difference d (Upper bound) n r))
         (rw J.one
         (balance _ 0 bound (digits_on d + number_on n r) 0 ((digits + digits_on d) / p + (former_value a bits + number_on n r) / p) (omega arith) (omega arith)
         (omega (
@@ -138,20 +143,20 @@ module _ (a : ℕ → ℕ) where
         ))))
 
     -- a difference's rows
-    pub difference_run : (above : Bool) (r : ℕ)
-        → (Holds a (n + 1) (subtracted d above bound n r)
-        ↔ ((lesser above bound d ≤ greater above bound d)
-        × (greater above bound d - lesser above bound d < 2 ^ n)
-        × Agree a r n (number_wires n (greater above bound d - lesser above bound d))))
+    pub difference_run : (b : Bound) → bound_value b < 2 ^ 32 → (r : ℕ)
+        → (Holds a (n + 1) (subtracted d b n r)
+        ↔ ((lesser b d ≤ greater b d)
+        × (greater b d - lesser b d < 2 ^ n)
+        × Agree a r n (number_wires n (greater b d - lesser b d))))
     unfolding subtracted beside
-    difference_run above r =
+    difference_run b low r =
         Iff.trans
-        (each_beside (λ k f. Satisfied a (row_of f)) n 1 (λ l. Bit (record { 0 = r + l })) (λ l. Difference d above bound n (record { 0 = r })))
+        (each_beside (λ k f. Satisfied a (row_of f)) n 1 (λ l. Bit (record { 0 = r + l })) (λ l. Difference d b n (record { 0 = r })))
         (Iff.trans
         (and_given
         (each_iff n (λ l. Satisfied a (row_of (Bit (record { 0 = r + l })))) (λ l. a (r + l) < 2) (λ l m. bit-row a J (r + l)))
         (λ bits.
         let most : 2 ^ n ≤ 2 ^ 7 = pow_mono short in
-        Iff.trans (each_one (λ l. Satisfied a (row_of (Difference d above bound n (record { 0 = r })))))
-        (difference_row above (record { 0 = r }) (omega (arith, number_lt n (λ i. a (r + i)) bits)))))
-        (difference_bits (greater above bound d) (lesser above bound d) n (λ i. a (r + i))))
+        Iff.trans (each_one (λ l. Satisfied a (row_of (Difference d b n (record { 0 = r })))))
+        (difference_row b low (record { 0 = r }) (omega (arith, number_lt n (λ i. a (r + i)) bits)))))
+        (difference_bits (greater b d) (lesser b d) n (λ i. a (r + i))))

@@ -5,7 +5,7 @@ use Rattle.forms.proofs.shape.DifferenceApart.{ApartDifference, difference_few, 
 use Rattle.forms.proofs.shape.Rises.{Part, nonzero-length}
 use Rattle.forms.proofs.shape.SumApart.{ApartSum, sum_few, sum_part}
 use Rattle.forms.proofs.terms.SumTerms.{addend_words}
-use Rattle.forms.specs.Rows.{Row, letters, with_sign, terms}
+use Rattle.forms.specs.Rows.{Row, bound_value, is_lower, letters, with_sign, terms}
 use Rattle.forms.specs.Shape.{All, Pairwise, most_terms}
 use Rattle.forms.specs.Terms.{term_count, unsorted}
 use Rattle.forms.specs.declared.form.Form.TheVariants.{Fixed, Bit, XorOfTwo, XorOfThree, Majority, Choice, Sum, Equal, Difference}
@@ -25,7 +25,7 @@ Apart m (Majority x y z r) = ApartWires m (x.0 ∷ y.0 ∷ z.0 ∷ r.0 ∷ [])
 Apart m (Choice x y z r) = ApartWires m (x.0 ∷ y.0 ∷ z.0 ∷ r.0 ∷ [])
 Apart m (Sum s c r) = ApartSum m (addend_words s) c r.0
 Apart m (Equal x y) = ApartWires m (x.0 ∷ y.0 ∷ [])
-Apart m (Difference d above bound n r) = ApartDifference m d bound n r.0
+Apart m (Difference d bound n r) = ApartDifference m d bound n r.0
 
 pub record Parts (m : ℕ) (r : Row) : Type 0 where
   pub a : Part m r.A
@@ -42,8 +42,8 @@ letters_parts m (Majority x y z r) h = record { a = omega arith; b = omega arith
 letters_parts m (Choice x y z r) h = omega arith
 letters_parts m (Sum s c r) h = record { a = sum_part m s c r h; b = omega arith; c = omega arith }
 letters_parts m (Equal x y) h = omega arith
-letters_parts m (Difference d above bound n r) h =
-    record { a = difference_part m d above bound n r h; b = omega (arith, h.result); c = omega arith }
+letters_parts m (Difference d bound n r) h =
+    record { a = difference_part m d bound n r h; b = omega (arith, h.result); c = omega arith }
 
 -- how many terms a form has, the zero ones left out
 
@@ -63,5 +63,6 @@ letters_few m (Majority x y z r) h = few (Majority x y z r) (omega arith)
 letters_few m (Choice x y z r) h = few (Choice x y z r) (omega arith)
 letters_few m (Sum s c r) h = sum_few m s c r h
 letters_few m (Equal x y) h = few (Equal x y) (omega arith)
-letters_few m (Difference d above bound n r) h =
-    few (Difference d above bound n r) (omega (arith, difference_few above d (with_sign (not above) bound) n r h.few))
+letters_few m (Difference d bound n r) h =
+    few (Difference d bound n r)
+    (omega (arith, difference_few (is_lower bound) d (with_sign (not (is_lower bound)) (bound_value bound)) n r h.few))

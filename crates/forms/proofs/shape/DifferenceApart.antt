@@ -1,6 +1,6 @@
 -- The terms of a difference's row: those of its digits, of its bound on wire 0 and of its bits, each a run of wires. Where the runs do not
 -- overlap, all wires differ.
-use Rattle.std.proofs.Common.{◌≡◌, ℕ, ◌+◌, ◌^◌, ◌<◌, ◌≤◌, Bool, true, false, cond, not, List, [], ◌∷◌, ◌++◌, length, refl, append_assoc, arith, lit≤, length-append}
+use Rattle.std.proofs.Common.{◌≡◌, ℕ, ◌+◌, ◌^◌, ◌<◌, ◌≤◌, Bool, false, not, List, [], ◌∷◌, ◌++◌, IfSome, length, None, Option, Some, refl, append_assoc, arith, lit≤, length-append}
 use Rattle.field.specs.Field.{p}
 use Rattle.forms.proofs.shape.All.{all_append, all_tab, pairwise_tab}
 use Rattle.forms.proofs.shape.Clear.{Clear}
@@ -8,19 +8,20 @@ use Rattle.forms.proofs.shape.Rises.{Part}
 use Rattle.forms.proofs.shape.TermRuns.{Off, On, Run, constant-run, run-before, run_off, run_part}
 use Rattle.forms.proofs.terms.DifferenceTerms.{number-length, number_range, with_sign_range}
 use Rattle.forms.specs.Positions.{one}
-use Rattle.forms.specs.Rows.{◌·◌, digit_terms, number_terms, with_sign}
+use Rattle.forms.specs.Rows.{◌·◌, bound_value, digit_terms, is_lower, number_terms, tens_terms, with_sign}
 use Rattle.forms.specs.Shape.{All}
+use Rattle.forms.specs.declared.form.Bound.{Bound}
 use Rattle.forms.specs.declared.form.Digits.{Digits}
 use Rattle.forms.specs.declared.form.Term.{Term}
 use Rattle.refusal.specs.declared.numbers.WireNumber.{WireNumber}
 
 -- digits, where there are two of them, and n bits from r on, none of them on wire 0 or past m, do not overlap; the bound is in range
-pub record ApartDifference (m : ℕ) (d : Digits) (bound n r : ℕ) : Type 0 where
+pub record ApartDifference (m : ℕ) (d : Digits) (bound : Bound) (n r : ℕ) : Type 0 where
   pub units : (1 ≤ d.units.0) × (d.units.0 + 4 ≤ m) × Clear d.units.0 4 r n
-  pub tens : d.two ≡ true → (1 ≤ d.tens.0) × (d.tens.0 + 4 ≤ m) × Clear d.tens.0 4 r n × Clear d.units.0 4 d.tens.0 4
+  pub tens : IfSome d.tens (λ w. (1 ≤ w.0) × (w.0 + 4 ≤ m) × Clear w.0 4 r n × Clear d.units.0 4 w.0 4)
   pub result : (1 ≤ r) × (r + n ≤ m)
-  pub least : 1 ≤ bound
-  pub most : bound < 2 ^ 32
+  pub least : 1 ≤ bound_value bound
+  pub most : bound_value bound < 2 ^ 32
   pub few : n ≤ 7
 
 number-run : (plus : Bool) (k n : ℕ) (w : WireNumber) → 1 ≤ k → k ≤ 10 → n ≤ 7 → Run w.0 n (number_terms plus k n w)
@@ -32,9 +33,16 @@ number-run plus k n w some small short =
       residues = all_tab (λ (t : Term). t.residue < p) n _ (λ i h. (number_range plus k n w some small short i).1);
     }
 
-module _ (m : ℕ) (d : Digits) (above : Bool) (bound n : ℕ) (r : WireNumber) (h : ApartDifference m d bound n r.0) where
+module _ (m : ℕ) (d : Digits) (bound : Bound) (n : ℕ) (r : WireNumber) (h : ApartDifference m d bound n r.0) where
+  abbrev above : Bool
+  above = is_lower bound
+
+  -- the bound, put on or taken off
+  abbrev limit : ℕ
+  limit = with_sign (not above) (bound_value bound)
+
   abbrev constant : List Term
-  constant = with_sign (not above) bound · one ∷ []
+  constant = limit · one ∷ []
 
   abbrev bits : List Term
   bits = number_terms false 1 n r
@@ -44,11 +52,11 @@ module _ (m : ℕ) (d : Digits) (above : Bool) (bound n : ℕ) (r : WireNumber) 
 
   -- what follows the digits
   abbrev rest : List Term
-  rest = with_sign (not above) bound · one ∷ bits
+  rest = limit · one ∷ bits
 
   rest_part : Part m rest
   rest_part =
-      run-before 0 1 constant (constant-run _ (with_sign_range (not above) bound h.least (omega (arith, h.most))).1) m bits
+      run-before 0 1 constant (constant-run _ (with_sign_range (not above) (bound_value bound) h.least (omega (arith, h.most))).1) m bits
       (omega (arith, h.result)) (run_part r.0 n bits bits-run m h.result.1)
       (run_off r.0 n bits bits-run 0 1 (omega (arith, h.result)))
 
@@ -56,20 +64,19 @@ module _ (m : ℕ) (d : Digits) (above : Bool) (bound n : ℕ) (r : WireNumber) 
   digit-run : (k : ℕ) (w : WireNumber) → 1 ≤ k → k ≤ 10 → Run w.0 4 (number_terms above k 4 w)
   digit-run k w some small = number-run above k 4 w some small (lit≤ tt)
 
-  rest_off : (w : ℕ) → 1 ≤ w → Clear w 4 r.0 n → Off w 4 (with_sign (not above) bound · one) × All (Off w 4) bits
+  rest_off : (w : ℕ) → 1 ≤ w → Clear w 4 r.0 n → Off w 4 (limit · one) × All (Off w 4) bits
   rest_off w low clear = (omega arith, run_off r.0 n bits bits-run w 4 clear)
 
-  digits_part : (b : Bool) → d.two ≡ b
-      → Part m (number_terms above 1 4 d.units ++ (cond b (number_terms above 10 4 d.tens) [] ++ rest))
-  digits_part true e =
-      let t = h.tens e in
-      let tens = number_terms above 10 4 d.tens in
-      let tens-run = digit-run 10 d.tens (lit≤ tt) (lit≤ tt) in
+  digits_part : (tens : Option WireNumber) → d.tens ≡ tens → Part m (number_terms above 1 4 d.units ++ (tens_terms above tens ++ rest))
+  digits_part (Some w) e =
+      let t = rw e at h.tens in
+      let tens = number_terms above 10 4 w in
+      let tens-run = digit-run 10 w (lit≤ tt) (lit≤ tt) in
       run-before d.units.0 4 (number_terms above 1 4 d.units) (digit-run 1 d.units (lit≤ tt) (lit≤ tt)) m (tens ++ rest) h.units.1
-      (run-before d.tens.0 4 tens tens-run m rest t.1 rest_part (rest_off d.tens.0 t.0 t.2))
-      (all_append (Off d.units.0 4) tens rest (run_off d.tens.0 4 tens tens-run d.units.0 4 t.3)
+      (run-before w.0 4 tens tens-run m rest t.1 rest_part (rest_off w.0 t.0 t.2))
+      (all_append (Off d.units.0 4) tens rest (run_off w.0 4 tens tens-run d.units.0 4 t.3)
       (rest_off d.units.0 h.units.0 h.units.2))
-  digits_part false e =
+  digits_part None e =
       run-before d.units.0 4 (number_terms above 1 4 d.units) (digit-run 1 d.units (lit≤ tt) (lit≤ tt)) m rest h.units.1 rest_part
       (rest_off d.units.0 h.units.0 h.units.2)
 
@@ -78,17 +85,17 @@ module _ (m : ℕ) (d : Digits) (above : Bool) (bound n : ℕ) (r : WireNumber) 
   difference_part =
       rw (
         append_assoc (digit_terms above d) constant bits,
-        append_assoc (number_terms above 1 4 d.units) (cond d.two (number_terms above 10 4 d.tens) []) rest,
+        append_assoc (number_terms above 1 4 d.units) (tens_terms above d.tens) rest,
       )
-      (digits_part d.two refl)
+      (digits_part d.tens refl)
 
 digits_few : (plus : Bool) (d : Digits) → length (digit_terms plus d) ≤ 8
 unfolding digit_terms
-digits_few plus d = omega (arith, length-append (number_terms plus 1 4 d.units) (cond d.two (number_terms plus 10 4 d.tens) []), number-length plus 1 4 d.units, more d.two)
+digits_few plus d = omega (arith, length-append (number_terms plus 1 4 d.units) (tens_terms plus d.tens), number-length plus 1 4 d.units, more d.tens)
   where
-    more : (b : Bool) → length (cond b (number_terms plus 10 4 d.tens) []) ≤ 4
-    more true = omega (arith, number-length plus 10 4 d.tens)
-    more false = omega arith
+    more : (tens : Option WireNumber) → length (tens_terms plus tens) ≤ 4
+    more (Some w) = omega (arith, number-length plus 10 4 w)
+    more None = omega arith
 
 pub difference_few : (above : Bool) (d : Digits) (k n : ℕ) (r : WireNumber) → n ≤ 7
     → length (digit_terms above d ++ (k · one ∷ []) ++ number_terms false 1 n r) ≤ 16

@@ -1,6 +1,6 @@
 -- The rows of a word. Their wires are apart where the words' wires at each position are: words that do not overlap are apart,
 -- and so is a word from itself rotated.
-use Rattle.std.proofs.Common.{◌≡◌, ℕ, ◌/◌, ◌%◌, ◌<◌, ◌≤◌, Bool, eqb, ltb, List, [], ◌∷◌, map, arith, ltb-true}
+use Rattle.std.proofs.Common.{◌≡◌, ℕ, ◌/◌, ◌%◌, ◌<◌, ◌≤◌, eqb, ltb, List, [], ◌∷◌, map, arith, ltb-true}
 use Rattle.forms.proofs.shape.All.{all_map, of_cond}
 use Rattle.forms.proofs.shape.Apart.{Apart, ApartWires}
 use Rattle.forms.proofs.shape.Clear.{ClearWords, Under}
@@ -11,6 +11,7 @@ use Rattle.forms.specs.Positions.{wire_at}
 use Rattle.forms.specs.Shape.{All, Pairwise}
 use Rattle.forms.specs.WordForms.{choice_of, paired, subtracted, summed, xor_of_two}
 use Rattle.forms.specs.declared.form.Addends.{Addends}
+use Rattle.forms.specs.declared.form.Bound.{Bound}
 use Rattle.forms.specs.declared.form.Digits.{Digits}
 use Rattle.forms.specs.declared.form.Form.TheVariants.{XorOfThree}
 use Rattle.forms.specs.declared.form.Form.{Form}
@@ -82,6 +83,6 @@ module _ (m : ℕ) where
   unfolding summed
   sum_apart s c r l h = of_cond (Apart m) (ltb l 34) (λ t. omega (arith, h.result, ltb-true l 34 t)) (λ t. h)
 
-  pub difference_apart : (d : Digits) (above : Bool) (bound n r l : ℕ) → ApartDifference m d bound n r → Apart m (subtracted d above bound n r l)
+  pub difference_apart : (d : Digits) (bound : Bound) (n r l : ℕ) → ApartDifference m d bound n r → Apart m (subtracted d bound n r l)
   unfolding subtracted
-  difference_apart d above bound n r l h = of_cond (Apart m) (ltb l n) (λ t. omega (arith, h.result, ltb-true l n t)) (λ t. h)
+  difference_apart d bound n r l h = of_cond (Apart m) (ltb l n) (λ t. omega (arith, h.result, ltb-true l n t)) (λ t. h)

@@ -1,6 +1,7 @@
 -- The bytes of terms and how they are written: a number byte by byte, a term's coefficient behind its wire, and term
 -- behind term.
-use Rattle.std.proofs.Common.{◌≡◌, ℕ, ◌+◌, ◌*◌, ◌<◌, ◌≤◌, List, [], ◌∷◌, ◌++◌, length, get_or, take, sym, refl, ap, ◌∙◌, ap₂, append_assoc, append-nil, zero-le, add-one, arith, length-append, length-take-le, take_all, take-suc}
+use Rattle.std.proofs.Common.{◌≡◌, ℕ, ◌+◌, ◌*◌, ◌<◌, ◌≤◌, List, [], ◌∷◌, ◌++◌, length, get_or, ℤ, pos, negsuc, take, sym, refl, ap, ◌∙◌, ap₂, append_assoc, append-nil, zero-le, add-one, arith, length-append, length-take-le, take_all, take-suc}
+use Rattle.std.specs.Int.{cast_unsigned, w64}
 use Rattle.encoding.proofs.Bytes.{length-least_first, length-twos_complement}
 use Rattle.encoding.proofs.Written.{length-written, written_as, written_none, written_then}
 use Rattle.encoding.specs.Bytes.{least_first, twos_complement}
@@ -10,6 +11,12 @@ use Rattle.forms.specs.Coefficients.{coefficient}
 use Rattle.forms.specs.TermBytes.{term_bytes, terms_bytes}
 use Rattle.forms.specs.Terms.{flat, term_at}
 use Rattle.forms.specs.declared.form.Term.{Term}
+
+-- the bytes of a signed number are those of its 64 bits
+pub coefficient_bytes : (z : ℤ) → least_first 8 (cast_unsigned w64 z) ≡ twos_complement 8 z
+unfolding twos_complement
+coefficient_bytes (pos n) = refl
+coefficient_bytes (negsuc n) = refl
 
 term_length : (t : Term) → length (term_bytes t) ≡ 12
 unfolding term_bytes

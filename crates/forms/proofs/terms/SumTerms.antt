@@ -1,13 +1,13 @@
 -- The terms of a sum: how many each part has, and that of all only the constant can be zero. A weight is a power of two,
 -- and p less a power of two below it is not 0.
-use Rattle.std.proofs.Common.{◌≡◌, ℕ, zero, suc, ◌+◌, ◌-◌, ◌*◌, ◌^◌, ◌≤◌, Bool, true, false, cond, List, [], ◌∷◌, ◌++◌, length, sym, refl, ap, ◌∙◌, ap₂, append_assoc, append-nil, arith, lit≤, length-append, pow_pos, pow_mono}
+use Rattle.std.proofs.Common.{◌≡◌, ℕ, zero, suc, ◌+◌, ◌-◌, ◌*◌, ◌^◌, ◌≤◌, List, [], ◌∷◌, ◌++◌, length, None, Option, Some, sym, refl, ap, ◌∙◌, ap₂, append_assoc, append-nil, arith, lit≤, length-append, pow_pos, pow_mono}
 use Rattle.encoding.proofs.Tab.{length-tab}
 use Rattle.encoding.specs.Sequence.{tab}
 use Rattle.encoding.specs.Written.{Written}
 use Rattle.forms.proofs.shape.Nonzero.{keeps, nonzero-append}
 use Rattle.forms.proofs.terms.WrittenTerms.{terms_then}
 use Rattle.forms.specs.Positions.{at, one}
-use Rattle.forms.specs.Rows.{◌·◌, addend_terms, less, letters, nonzero, taken, terms, weighted}
+use Rattle.forms.specs.Rows.{◌·◌, addend_terms, less, letters, more_terms, nonzero, taken, terms, weighted}
 use Rattle.forms.specs.Shape.{most_terms}
 use Rattle.forms.specs.Terms.{Filled, flat, term_count, unsorted}
 use Rattle.forms.specs.declared.form.Addends.{Addends}
@@ -28,8 +28,12 @@ taken-length r =
     simp length-append (ap (λ (n : ℕ). n + 2) (length-tab 32 (λ i. less (2 ^ (31 - i)) · at r i)))
 
 -- the words that are added up, and their terms
+abbrev pub more_words : Option (WordPosition × WordPosition) → List WordPosition
+more_words None = []
+more_words (Some words) = words.0 ∷ words.1 ∷ []
+
 abbrev pub addend_words : Addends → List WordPosition
-addend_words s = s.x ∷ s.y ∷ cond s.four (s.z ∷ s.t ∷ []) []
+addend_words s = s.x ∷ s.y ∷ more_words s.more
 
 unfoldable pub weighted_all : List WordPosition → List Term
 weighted_all [] = []
@@ -37,11 +41,11 @@ weighted_all (x ∷ xs) = weighted x ++ weighted_all xs
 
 pub addends_weighted : (s : Addends) → addend_terms s ≡ weighted_all (addend_words s)
 unfolding addend_terms weighted_all
-addends_weighted s = append_assoc (weighted s.x) (weighted s.y) _ ∙ ap (λ l. weighted s.x ++ (weighted s.y ++ l)) (more s.four)
+addends_weighted s = append_assoc (weighted s.x) (weighted s.y) _ ∙ ap (λ l. weighted s.x ++ (weighted s.y ++ l)) (more s.more)
   where
-    more : (b : Bool) → cond b (weighted s.z ++ weighted s.t) [] ≡ weighted_all (cond b (s.z ∷ s.t ∷ []) [])
-    more true = ap (λ l. weighted s.z ++ l) (sym (append-nil (weighted s.t)))
-    more false = refl
+    more : (m : Option (WordPosition × WordPosition)) → more_terms m ≡ weighted_all (more_words m)
+    more (Some (z, t)) = ap (λ l. weighted z ++ l) (sym (append-nil (weighted t)))
+    more None = refl
 
 words-length : (xs : List WordPosition) → length (weighted_all xs) ≡ 32 * length xs
 unfolding weighted_all
@@ -113,27 +117,27 @@ module _ (s : Addends) where
   two_then : {l m r : List ℕ} → Written 0 (flat (weighted s.x)) l m → Written 64 (flat (weighted s.y)) m r → Written 0 (flat two) l r
   two_then p q = terms_then (weighted s.x) (weighted s.y) 64 (omega (arith, weighted-length s.x)) p q
 
-  pub two-written : s.four ≡ false → {l m r : List ℕ} → Written 0 (flat (weighted s.x)) l m → Written 64 (flat (weighted s.y)) m r
+  pub two-written : s.more ≡ None → {l m r : List ℕ} → Written 0 (flat (weighted s.x)) l m → Written 64 (flat (weighted s.y)) m r
       → (64 ≤ 128) × (64 ≡ length (addend_terms s)) × Written 0 (flat (addend_terms s)) l r
   unfolding addend_terms
   two-written e p q = rw (e, append-nil two) (lit≤ tt, sym two-length, two_then p q)
 
-  pub four-written : s.four ≡ true → {l m r v w : List ℕ} → Written 0 (flat (weighted s.x)) l m → Written 64 (flat (weighted s.y)) m r
-      → Written 128 (flat (weighted s.z)) r v → Written 192 (flat (weighted s.t)) v w
+  pub four-written : {z t : WordPosition} → s.more ≡ Some (z, t) → {l m r v w : List ℕ} → Written 0 (flat (weighted s.x)) l m → Written 64 (flat (weighted s.y)) m r
+      → Written 128 (flat (weighted z)) r v → Written 192 (flat (weighted t)) v w
       → (128 ≤ 128) × (128 ≡ length (addend_terms s)) × Written 0 (flat (addend_terms s)) l w
   unfolding addend_terms
-  four-written e p q u z =
-      let more = weighted s.z ++ weighted s.t in
-      let long : length (two ++ weighted s.z) ≡ 96 =
-      omega (arith, length-append two (weighted s.z), two-length, weighted-length s.z) in
+  four-written {z} {t} e p q u v =
+      let more = weighted z ++ weighted t in
+      let long : length (two ++ weighted z) ≡ 96 =
+      omega (arith, length-append two (weighted z), two-length, weighted-length z) in
       let all : length (two ++ more) ≡ 128 =
-      omega (arith, length-append two more, length-append (weighted s.z) (weighted s.t), two-length, weighted-length s.z, weighted-length s.t) in
+      omega (arith, length-append two more, length-append (weighted z) (weighted t), two-length, weighted-length z, weighted-length t) in
       rw e (
         lit≤ tt,
         sym all,
-        rw (← append_assoc two (weighted s.z) (weighted s.t))
-            (terms_then (two ++ weighted s.z) (weighted s.t) 192 (omega arith)
-            (terms_then two (weighted s.z) 128 (omega (arith, two-length)) (two_then p q) u) z),
+        rw (← append_assoc two (weighted z) (weighted t))
+            (terms_then (two ++ weighted z) (weighted t) 192 (omega arith)
+            (terms_then two (weighted z) 128 (omega (arith, two-length)) (two_then p q) u) v),
       )
 
   module _ (k : ℕ) (r : WireNumber) where

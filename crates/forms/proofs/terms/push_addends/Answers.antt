@@ -2,16 +2,16 @@
 use Rattle.forms.proofs.terms.SumTerms.{four-written, two-written}
 use Rattle.forms.proofs.terms.push_addends.Goals as goal
 
-pub returns-then-four : goal.returns-then-four
-returns-then-four c =
-    four-written c.args.s c.if-four.true
+pub returns-in-Some : goal.returns-in-Some
+returns-in-Some c =
+    four-written c.args.s c.in-Some.is
     c.push_word.ensures
     c.push_word-2.ensures
-    c.push_word-then-four.ensures
-    c.push_word-then-four-2.ensures
+    c.push_word-in-Some.ensures
+    c.push_word-in-Some-2.ensures
 
-pub returns : goal.returns
-returns c =
-    two-written c.args.s c.if-four.false
+pub returns-in-None : goal.returns-in-None
+returns-in-None c =
+    two-written c.args.s c.in-None.is
     c.push_word.ensures
     c.push_word-2.ensures

@@ -2,12 +2,12 @@
 use Rattle.forms.proofs.terms.DifferenceTerms.{one_written, two-written}
 use Rattle.forms.proofs.terms.push_digits.Goals as goal
 
-pub returns-then-two : goal.returns-then-two
-returns-then-two c =
+pub returns-in-Some : goal.returns-in-Some
+returns-in-Some c =
     let a = c.args in
-    two-written a.plus a.d c.if-two.true c.push_number.ensures c.push_number-then-two.ensures
+    two-written a.plus a.d c.in-Some.is c.push_number.ensures c.push_number-in-Some.ensures
 
-pub returns : goal.returns
-returns c =
+pub returns-in-None : goal.returns-in-None
+returns-in-None c =
     let a = c.args in
-    one_written a.plus a.d c.if-two.false c.push_number.ensures
+    one_written a.plus a.d c.in-None.is c.push_number.ensures
