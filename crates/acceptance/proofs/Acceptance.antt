@@ -1,6 +1,6 @@
 -- When the check accepts. Its definition is a chain of tests, and an answer about the rows comes only past them all: each test
 -- that is passed is a condition that holds, and the rows' own answer decides the rest.
-use Rattle.std.specs.Prelude.{Err, Ok, Some, None, Option}
+use Rattle.std.specs.Prelude.{Err, Some, None, Option}
 use mathlib.Core.Bool.{and-eq-true_iff, true}
 use mathlib.Core.List.{List}
 use mathlib.Core.Logic.Iff
@@ -46,14 +46,14 @@ same_iff (suc n) f g = (
       ((same_iff n f g).1 (λ k l. all k (omega arith)), eq-eqb (f n) (g n) (all n (omega arith))),
 )
 
--- the verdict is known by the answer
-done : (v : Option RowNumber) → after_rows v ≡ done → v ≡ None
-done None e = refl
-done (Some k) e = absurd (omega (arith, ap outcome_number e))
+-- the row that is named is known by the answer
+none_named : (v : Option RowNumber) → after_rows v ≡ done → v ≡ None
+none_named None e = refl
+none_named (Some k) e = absurd (omega (arith, ap outcome_number e))
 
-fails : (v : Option RowNumber) (k : RowNumber) → after_rows v ≡ Err (Unsatisfied k) → v ≡ Some k
-fails None k e = absurd (omega (arith, ap outcome_number e))
-fails (Some j) k e = ap (λ o. Some (record { 0 = get_or (outcome_values o) 0 0 })) e
+row_named : (v : Option RowNumber) (k : RowNumber) → after_rows v ≡ Err (Unsatisfied k) → v ≡ Some k
+row_named None k e = absurd (omega (arith, ap outcome_number e))
+row_named (Some j) k e = ap (λ o. Some (record { 0 = get_or (outcome_values o) 0 0 })) e
 
 -- the tests before the rows are passed
 pub record Passed (C : Circuit) (d a : List ℕ) : Type 0 where
@@ -101,7 +101,7 @@ module _ (C : Circuit) (d a : List ℕ) where
         λ (h, rows).
             record {
               passed = h;
-              satisfied = λ k l. (lowest_all (entry a) (row_at C) 0 (row_count C)).0 (done rows_verdict rows) k (omega arith) (omega arith);
+              satisfied = λ k l. (lowest_all (entry a) (row_at C) 0 (row_count C)).0 (none_named rows_verdict rows) k (omega arith) (omega arith);
             },
         λ h. (
           h.passed,
@@ -115,4 +115,4 @@ module _ (C : Circuit) (d a : List ℕ) where
   unsatisfied_lowest k e =
       subst (λ m. LowestFailing (entry a) (row_at C) 0 m k.0) (zero-add (row_count C))
       (lowest_failing_lem (entry a) (row_at C) 0 (row_count C) k
-      (fails rows_verdict k ((answer_of_rows (Err (Unsatisfied k)) (λ m l h e. omega arith) (λ e. omega arith)).0 e).1))
+      (row_named rows_verdict k ((answer_of_rows (Err (Unsatisfied k)) (λ m l h e. omega arith) (λ e. omega arith)).0 e).1))

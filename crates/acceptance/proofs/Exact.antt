@@ -2,7 +2,6 @@
 -- witness has wires, which are bits, and a digest. Where the rows hold, the witness that is read off the wires is valid and the wires are its
 -- own; where the wires are a valid witness's, the rows hold. So an assignment is accepted against a digest exactly where some valid witness
 -- has that digest and, byte for byte, that assignment, and it is known by the wires that the witness is read off.
-use Rattle.std.specs.Prelude.{Ok}
 use mathlib.Core.List.{List, ◌++◌}
 use mathlib.Core.Logic.{◌↔◌}
 use mathlib.Core.Path.{◌≡◌, ◌∙◌, ap, subst, subst₂, sym}
@@ -115,7 +114,7 @@ module _ {X : Type 0} {C : Circuit} {Valid : X → Type 0} {wires : X → ℕ �
     -- what a producer leaves of a valid witness is accepted against its digest
     pub produced : (x : X) → Valid x → (out : List ℕ) (reply : Outcome) → reply ≡ done
         → answer (digest x) (take (8 * wire_count C) (left reply (assigned x ++ drop (8 * wire_count C) out) out)) ≡ done
-    produced x valid out reply done =
-        subst (λ reply. answer (digest x) (take (8 * wire_count C) (left reply (assigned x ++ drop (8 * wire_count C) out) out)) ≡ done) (sym done)
+    produced x valid out reply answered =
+        subst (λ reply. answer (digest x) (take (8 * wire_count C) (left reply (assigned x ++ drop (8 * wire_count C) out) out)) ≡ done) (sym answered)
         (subst (λ a. answer (digest x) a ≡ done) (sym (entries_front (wire_count C) (wires x) _))
         ((iff (digest x) (assigned x)).1 (asked, witness_accepted x valid)))

@@ -2,7 +2,7 @@
 -- request 6).
 use Rattle.refusal.specs.declared.numbers.RowNumber.{RowNumber}
 use Rattle.refusal.specs.Refusals.{Outcome, done}
-use Rattle.std.specs.Prelude.{Bool, cond, not, true, ◌&&◌, List, ℕ, zero, suc, ◌+◌, ◌*◌, eqb, length, Err, Ok, Some, None, Option}
+use Rattle.std.specs.Prelude.{Bool, cond, not, true, ◌&&◌, List, ℕ, zero, suc, ◌+◌, ◌*◌, eqb, length, Err, Some, None, Option}
 use Rattle.assignment.specs.Assignment.{entry}
 use Rattle.assignment.specs.BelowPrime.{below_prime_answer}
 use Rattle.circuit.specs.Circuit.{row_at}

@@ -3,14 +3,14 @@ ghost use Rattle.std.specs.Prelude.{◌≡◌, ℕ, ◌+◌, ◌*◌, ◌≤◌,
 ghost use Rattle.assignment.specs.Assignment.{entry};
 ghost use Rattle.circuit.specs.Ranges.{Allowed};
 ghost use Rattle.encoding.specs.Bits.{bit_of_bytes};
-ghost use Rattle.acceptance.specs.Check.{after_rows, circuit_check, same};
+ghost use Rattle.acceptance.specs.Check.{circuit_check, same};
 
 use assignment::bounded::below_prime;
 use assignment::entry::read;
 use circuit::circuits::Circuit;
 use circuit::wire::wire_count;
 use encoding::read::bit_at;
-use refusal::numbers::{RowNumber, WireNumber};
+use refusal::numbers::WireNumber;
 use refusal::outcome::Refusal;
 use satisfaction::rows_check::lowest_unsatisfied;
 
@@ -27,17 +27,8 @@ fn digest_agrees(digest: &[u8], assignment: &[u8]) -> bool
     true
 }
 
-// The answer once the rows are judged: the lowest that is not satisfied is named.
-fn after_rows(verdict: Option<RowNumber>) -> Result<(), Refusal>
-    ensures { result ≡ after_rows verdict }
-{
-    match verdict {
-        None => Ok(()),
-        Some(row) => Err(Refusal::Unsatisfied(row)),
-    }
-}
-
 // The check of an assignment of a circuit against a digest.
+#[tactic(auto, using(crate::proofs::circuit_check::Refusals::refusal_5, crate::proofs::circuit_check::Refusals::refusal_6, crate::proofs::circuit_check::Refusals::refusal_20, crate::proofs::circuit_check::Refusals::refusal_7, crate::proofs::circuit_check::Refusals::refusal_8, crate::proofs::circuit_check::Refusals::refusal_9, crate::proofs::circuit_check::Refusals::no_refusal, assignment::proofs::EntriesBelow::below_done))]
 pub fn check_circuit(circuit: Circuit, digest: &[u8], assignment: &[u8]) -> Result<(), Refusal>
     requires { Allowed circuit }
     ensures { result ≡ circuit_check circuit digest.now assignment.now }
@@ -56,5 +47,8 @@ pub fn check_circuit(circuit: Circuit, digest: &[u8], assignment: &[u8]) -> Resu
     if !digest_agrees(digest, assignment) {
         return Err(Refusal::DigestWire);
     }
-    after_rows(lowest_unsatisfied(circuit, assignment))
+    match lowest_unsatisfied(circuit, assignment) {
+        None => Ok(()),
+        Some(row) => Err(Refusal::Unsatisfied(row)),
+    }
 }

@@ -1,7 +1,7 @@
 -- The answers that the check could give. They have room in one number: a wire or a row that is named is below the count, and no circuit that
 -- is allowed has that many.
 use Rattle.refusal.specs.Refusals.{Outcome, done}
-use Rattle.std.specs.Prelude.{Err, Ok, None}
+use Rattle.std.specs.Prelude.{Err, None}
 use mathlib.Core.Bool.{not}
 use mathlib.Core.List.{List}
 use mathlib.Core.Path.{refl}

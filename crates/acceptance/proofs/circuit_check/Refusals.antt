@@ -1,10 +1,10 @@
 -- The answers of the check, one by one: each test of the definition is passed or decides. Two sequences that differ at a place
 -- are not the same.
 use Rattle.refusal.specs.Refusals.{done}
-use Rattle.std.specs.Prelude.{Err, Ok}
+use Rattle.std.specs.Prelude.{Err, None, Some}
 use mathlib.Core.Bool.{Bool, cond, false, not, true}
 use mathlib.Core.List.{List}
-use mathlib.Core.Path.{◌≡◌, refl}
+use mathlib.Core.Path.{◌≡◌, ◌∙◌, ap, refl}
 use Prim.Native.Nat.{ℕ, ◌+◌, ◌*◌, ◌<◌}
 use borrow.Author.Tests.{eq-eqb, ne_eqb}
 use lib.ListN.{length}
@@ -18,7 +18,8 @@ use Rattle.circuit.specs.declared.circuits.Circuit.{Circuit}
 use Rattle.encoding.specs.Bits.{bit_of_bytes}
 use Rattle.acceptance.proofs.Acceptance.{same_iff}
 use Rattle.acceptance.specs.Check.{after_rows, circuit_check, same}
-use Rattle.refusal.specs.declared.outcome.Refusal.TheVariants.{DigestNot32, DigestWire, WireZero, WrongLength}
+use Rattle.refusal.specs.declared.numbers.RowNumber.{RowNumber}
+use Rattle.refusal.specs.declared.outcome.Refusal.TheVariants.{DigestNot32, DigestWire, Unsatisfied, WireZero, WrongLength}
 use Rattle.refusal.specs.declared.outcome.Refusal.{Refusal}
 use Rattle.satisfaction.specs.Lowest.{lowest}
 
@@ -54,10 +55,21 @@ module _ (C : Circuit) (d a : List ℕ) where
             ((limit_before _ _ (wire_count C) a).passed _ below)
 
         -- past refusal 7
-        module _ (one : entry a 0 ≡ 1) (wires : Bool) (e : same 256 (λ k. entry a (1 + k)) (bit_of_bytes d) ≡ wires) where
-          pub from-wires : circuit_check C d a
-              ≡ cond (not wires) (Err DigestWire) (after_rows (lowest (entry a) (row_at C) 0 (row_count C)))
+        module _ (one : entry a 0 ≡ 1) where
+          from-wires : (wires : Bool) → same 256 (λ k. entry a (1 + k)) (bit_of_bytes d) ≡ wires
+              → circuit_check C d a ≡ cond (not wires) (Err DigestWire) (after_rows (lowest (entry a) (row_at C) 0 (row_count C)))
           unfolding circuit_check
-          from-wires =
+          from-wires wires e =
               rw (eq-eqb (length d) 32 digest, eq-eqb (length a) (8 * wire_count C) entries, eq-eqb (entry a 0) 1 one, e)
               ((limit_before _ _ (wire_count C) a).passed _ below)
+
+          pub refusal_8 : same 256 (λ k. entry a (1 + k)) (bit_of_bytes d) ≡ false → circuit_check C d a ≡ Err DigestWire
+          refusal_8 = from-wires false
+
+          -- past refusal 8
+          module _ (wires : same 256 (λ k. entry a (1 + k)) (bit_of_bytes d) ≡ true) where
+            pub refusal_9 : (k : RowNumber) → lowest (entry a) (row_at C) 0 (row_count C) ≡ Some k → circuit_check C d a ≡ Err (Unsatisfied k)
+            refusal_9 k e = from-wires true wires ∙ ap after_rows e
+
+            pub no_refusal : lowest (entry a) (row_at C) 0 (row_count C) ≡ None → circuit_check C d a ≡ done
+            no_refusal e = from-wires true wires ∙ ap after_rows e
