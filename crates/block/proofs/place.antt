@@ -1,1 +1,2 @@
+pub mod OneAfterOther
 pub mod WordByWord

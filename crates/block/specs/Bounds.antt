@@ -1,9 +1,7 @@
 -- Devices of private contracts; no public contract rests on them. They keep the numbers of wires small, so that no sum of
 -- them overflows, and say where A to H stand.
 use Rattle.std.specs.Prelude.{ℕ, ◌+◌, ◌<◌, ◌≤◌}
-use Rattle.block.specs.Ranges.{InStep}
 use Rattle.block.specs.Wires.{StatePosition, eight_from, stands}
-use Rattle.block.specs.declared.step.Step.{Step}
 
 -- the first wire of a block of small wires
 abbrev pub BlockAt : ℕ → Type 0
@@ -13,14 +11,6 @@ BlockAt F = F < 800000
 pub record BlockFrom (F b : ℕ) : Type 0 where
   pub high : BlockAt F
   pub before : b + 256 ≤ F
-
--- line l of word j of a step, in the block whose first wire is F
-abbrev pub StepRow : Step → ℕ → ℕ → ℕ → Type 0
-StepRow s F j l = BlockAt F × InStep 0 s j l
-
--- .. and which begins with the words from wire b on
-abbrev pub StepRowFrom : Step → ℕ → ℕ → ℕ → ℕ → Type 0
-StepRowFrom s F b j l = BlockFrom F b × InStep 0 s j l
 
 -- where A to H stand before round j, in the block whose first wire is F and which begins with the words from wire b on
 abbrev pub stands_before : ℕ → ℕ → ℕ → StatePosition

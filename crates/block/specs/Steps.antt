@@ -1,6 +1,6 @@
 -- Which step of the hash a row of a block stands for (document 01, "Rows": "each block in wire order"). The order is that of the
 -- words: `word s j l` is whatever stands at line l of word j of step s, for a row its place.
-use Rattle.std.specs.Prelude.{cond, ℕ, ◌+◌, ◌-◌, ◌*◌, ltb}
+use Rattle.std.specs.Prelude.{cond, List, [], ◌∷◌, ℕ, ◌+◌, ◌-◌, ◌*◌, ltb}
 use Rattle.block.specs.declared.place.Place.{Place}
 use Rattle.block.specs.declared.step.Step.TheVariants.{Start, Message, Q, P1, W, WPrime, U, Ss2, Ff, Gg, Tt1, Tt2, P0, Result, Digest, Appended}
 use Rattle.block.specs.declared.step.Step.{Step}
@@ -56,6 +56,11 @@ rounds_rows = 16 * early_rows + 48 * late_rows
 -- how many rows of the rounds stand before round j
 abbrev pub rows_before_round : ℕ → ℕ
 rows_before_round j = cond (ltb j 16) (j * early_rows) (16 * early_rows + (j - 16) * late_rows)
+
+-- word j of some steps one after the other, and behind them that of a last step
+unfoldable pub one_after_other : {A : Type 0} → (Step → ℕ → ℕ → A) → List Step → Step → ℕ → ℕ → A
+one_after_other word [] last j = word last j
+one_after_other word (s ∷ ss) last j = beside (lines s j) (word s j) (one_after_other word ss last j)
 
 -- q, P1(q) and Wj
 unfoldable pub expansion_layout : {A : Type 0} → (Step → ℕ → ℕ → A) → ℕ → ℕ → A

@@ -3,6 +3,7 @@
 
 pub mod expansion_form;
 pub mod place;
+pub mod placed;
 pub mod result_form;
 pub mod round_form;
 pub mod step;

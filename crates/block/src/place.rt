@@ -1,6 +1,6 @@
 // Where a row of a block stands: the step of the hash that it belongs to, and which row of that step it is.
 ghost use Rattle.std.specs.Prelude.{◌≡◌, ◌+◌, ◌<◌, ◌≤◌};
-ghost use Rattle.block.specs.Steps.{block_layout, expansion_layout, place, round_layout, rounds_layout, rounds_rows, rows_before_round};
+ghost use Rattle.block.specs.Steps.{block_layout, expansion_layout, one_after_other, place, round_layout, rounds_layout, rounds_rows, rows_before_round};
 
 use crate::step::{Step, lines_of};
 
@@ -43,7 +43,7 @@ pub fn rows_before_round(j: u64) -> u64
 }
 
 // A row's place: `index` is j or the number of a word, `line` counts the rows of that step's word from 0.
-#[derive(Clone, Copy)]
+#[derive(Clone, Copy, Debug, PartialEq, Eq)]
 pub struct Place {
     pub block: u64,
     pub step: Step,
@@ -63,52 +63,41 @@ pub fn step_place(step: Step, block: u64, index: u64, line: u64) -> Place
     }
 }
 
+// Row k of word j in block i, where the steps have their words one after the other, and the last step has all rows behind them.
+#[tactic(auto, using(crate::proofs::place::OneAfterOther::first_step, crate::proofs::place::OneAfterOther::later_steps, crate::proofs::place::OneAfterOther::last_step))]
+fn place_among(steps: &[Step], last: Step, i: u64, j: u64, k: u64) -> Place
+    ensures { result ≡ one_after_other (λ s. place s i) steps.now last j k }
+{
+    let mut line = k;
+    for step in steps {
+        let rows = lines_of(*step, j);
+        if line < rows {
+            return step_place(*step, i, j, line);
+        }
+        line -= rows;
+    }
+    step_place(last, i, j, line)
+}
+
 // Row k of word j of the expansion in block i.
+#[tactic(auto, unfolding(crate::specs::Steps::expansion_layout, crate::specs::Steps::one_after_other))]
 fn expansion_place(i: u64, j: u64, k: u64) -> Place
     ensures { result ≡ expansion_layout (λ s. place s i) j k }
 {
-    if k < 64 {
-        return step_place(Step::Q, i, j, k);
-    }
-    let k = k - 64;
-    if k < 64 {
-        return step_place(Step::P1, i, j, k);
-    }
-    step_place(Step::W, i, j, k - 64)
+    place_among(&[Step::Q, Step::P1], Step::W, i, j, k)
 }
 
 // Row k of round j in block i.
+#[tactic(auto, unfolding(crate::specs::Steps::round_layout, crate::specs::Steps::one_after_other))]
 fn round_place(i: u64, j: u64, k: u64) -> Place
     ensures { result ≡ round_layout (λ s. place s i) j k }
 {
-    if k < 35 {
-        return step_place(Step::U, i, j, k);
-    }
-    let k = k - 35;
-    if k < 32 {
-        return step_place(Step::Ss2, i, j, k);
-    }
-    let k = k - 32;
-    if k < 64 {
-        return step_place(Step::Ff, i, j, k);
-    }
-    let k = k - 64;
-    let g = lines_of(Step::Gg, j);
-    if k < g {
-        return step_place(Step::Gg, i, j, k);
-    }
-    let k = k - g;
-    if k < 35 {
-        return step_place(Step::Tt1, i, j, k);
-    }
-    let k = k - 35;
-    if k < 35 {
-        return step_place(Step::Tt2, i, j, k);
-    }
-    step_place(Step::P0, i, j, k - 35)
+    let steps = [Step::U, Step::Ss2, Step::Ff, Step::Gg, Step::Tt1, Step::Tt2];
+    place_among(&steps, Step::P0, i, j, k)
 }
 
 // Row k of the rounds of block i.
+#[tactic(auto, unfolding(crate::specs::Steps::rounds_layout, encoding::specs::Sequence::beside, encoding::specs::Sequence::grid))]
 fn rounds_place(i: u64, k: u64) -> Place
     ensures { result ≡ rounds_layout (λ s. place s i) k }
 {
@@ -119,7 +108,9 @@ fn rounds_place(i: u64, k: u64) -> Place
     round_place(i, 16 + k / LATE_ROWS, k % LATE_ROWS)
 }
 
-// Row k of block i.
+// Row k of block i. Its parts are told apart one by one: a table of them would need a function beside each, since each has rows of its
+// own kind.
+#[tactic(auto, unfolding(crate::specs::Steps::block_layout, encoding::specs::Sequence::beside, encoding::specs::Sequence::grid))]
 pub fn block_place(i: u64, k: u64) -> Place
     ensures { result ≡ block_layout (λ s. place s i) k }
 {

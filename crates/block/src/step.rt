@@ -1,10 +1,10 @@
 // The steps of the hash that rows stand for.
 ghost use Rattle.std.specs.Prelude.{◌≡◌, ◌<◌, ◌≤◌};
-ghost use Rattle.block.specs.Steps.{lines, lines_with};
+ghost use Rattle.block.specs.Steps.{lines};
 
 // The steps of the layout, in its order: those of a block, and around the blocks the start words, the digest, and what a circuit
 // appends, a row each.
-#[derive(Clone, Copy)]
+#[derive(Clone, Copy, Debug, PartialEq, Eq)]
 pub enum Step {
     Start,
     Message,
@@ -24,37 +24,16 @@ pub enum Step {
     Appended,
 }
 
-// How many rows a word of a step has, where one of GG has g.
-fn lines_with(g: u64, step: Step) -> u64
-    requires { (32 ≤ g) × (g ≤ 64) }
-    ensures { (result ≡ lines_with g step) × (1 ≤ result) × (result ≤ 64) }
-{
-    match step {
-        Step::Start => 32,
-        Step::Message => 32,
-        Step::Q => 64,
-        Step::P1 => 64,
-        Step::W => 64,
-        Step::WPrime => 32,
-        Step::U => 35,
-        Step::Ss2 => 32,
-        Step::Ff => 64,
-        Step::Gg => g,
-        Step::Tt1 => 35,
-        Step::Tt2 => 35,
-        Step::P0 => 64,
-        Step::Result => 32,
-        Step::Digest => 32,
-        Step::Appended => 1,
-    }
-}
-
 // How many rows word `index` of a step has.
 pub fn lines_of(step: Step, index: u64) -> u64
     ensures { (result ≡ lines step index) × (1 ≤ result) × (result ≤ 64) }
 {
-    if index < 16 {
-        return lines_with(64, step);
+    match step {
+        Step::Start | Step::Message | Step::WPrime | Step::Ss2 | Step::Result | Step::Digest => 32,
+        Step::Q | Step::P1 | Step::W | Step::Ff | Step::P0 => 64,
+        Step::U | Step::Tt1 | Step::Tt2 => 35,
+        Step::Gg if index < 16 => 64,
+        Step::Gg => 32,
+        Step::Appended => 1,
     }
-    lines_with(32, step)
 }
