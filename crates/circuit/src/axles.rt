@@ -25,16 +25,11 @@ pub const ABOVE_LOWER: u64 = 45577;
 pub const BELOW_UPPER: u64 = 45584;
 
 // Whether two bounds are from 2 to 99, the lower no greater than the upper.
+#[tactic(auto, unfolding(crate::specs::Axles::bounds_in_range))]
 pub fn bounds_in_range(lower: u64, upper: u64) -> bool
     ensures { result ≡ bounds_in_range lower upper }
 {
-    if lower < 2 {
-        return false;
-    }
-    if upper < lower {
-        return false;
-    }
-    upper <= 99
+    2 <= lower && lower <= upper && upper <= 99
 }
 
 // The digit of a byte: its low half.
@@ -59,6 +54,7 @@ fn axle_digits() -> Digits
 }
 
 // Line l of the high half of a digit's byte, which is 3.
+#[tactic(auto, unfolding(crate::specs::Axles::high_half, forms::specs::WordWires::number_wires))]
 fn high_half(byte: WireNumber, l: u64) -> Form
     requires { (byte.0 < 1000) × (l < 4) }
     ensures { (result ≡ high_half byte.0 l) × Fit result }
@@ -70,48 +66,19 @@ fn high_half(byte: WireNumber, l: u64) -> Form
 }
 
 // Row k of those that are appended for two bounds.
+#[tactic(auto, unfolding(crate::specs::Axles::axle_form, encoding::specs::Sequence::beside))]
 pub fn axle_form(lower: u64, upper: u64, k: u64) -> Form
     requires { (2 ≤ lower) × (lower ≤ upper) × (upper ≤ 99) × (k < 34) }
     ensures { (result ≡ axle_form lower upper k) × Fit result }
 {
     let tens = WireNumber(TENS_BYTE);
     let units = WireNumber(UNITS_BYTE);
-    if k < 4 {
-        return high_half(tens, k);
+    match k {
+        0..4 => high_half(tens, k),
+        4..8 => high_half(units, k - 4),
+        8..13 => subtracted(digit_of(tens), Bound::Upper(9), 4, WireNumber(TENS_LEFT), k - 8),
+        13..18 => subtracted(digit_of(units), Bound::Upper(9), 4, WireNumber(UNITS_LEFT), k - 13),
+        18..26 => subtracted(axle_digits(), Bound::Lower(lower), 7, WireNumber(ABOVE_LOWER), k - 18),
+        _ => subtracted(axle_digits(), Bound::Upper(upper), 7, WireNumber(BELOW_UPPER), k - 26),
     }
-    let k = k - 4;
-    if k < 4 {
-        return high_half(units, k);
-    }
-    let k = k - 4;
-    if k < 5 {
-        return subtracted(digit_of(tens), Bound::Upper(9), 4, WireNumber(TENS_LEFT), k);
-    }
-    let k = k - 5;
-    if k < 5 {
-        return subtracted(
-            digit_of(units),
-            Bound::Upper(9),
-            4,
-            WireNumber(UNITS_LEFT),
-            k,
-        );
-    }
-    let k = k - 5;
-    if k < 8 {
-        return subtracted(
-            axle_digits(),
-            Bound::Lower(lower),
-            7,
-            WireNumber(ABOVE_LOWER),
-            k,
-        );
-    }
-    subtracted(
-        axle_digits(),
-        Bound::Upper(upper),
-        7,
-        WireNumber(BELOW_UPPER),
-        k - 8,
-    )
 }

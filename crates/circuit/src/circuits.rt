@@ -16,7 +16,7 @@ use forms::form::Form;
 use refusal::numbers::WireNumber;
 
 // Which circuit.
-#[derive(Clone, Copy)]
+#[derive(Clone, Copy, Debug, PartialEq, Eq)]
 pub enum Circuit {
     // That of a record of so many bits.
     Record { bits: u64 },
@@ -25,24 +25,26 @@ pub enum Circuit {
 }
 
 // How many blocks a circuit has.
+#[tactic(auto, unfolding(limits::specs::Blocks::blocks))]
 pub fn block_count(circuit: Circuit) -> u64
     requires { Allowed circuit }
     ensures { (result ≡ block_count circuit) × (0 < result) × (result ≤ most_blocks) }
 {
     match circuit {
         Circuit::Record { bits } => limits::blocks::block_count(bits),
-        Circuit::Axles { lower: _, upper: _ } => 2,
+        Circuit::Axles { .. } => 2,
     }
 }
 
 // The message that block i belongs to.
+#[tactic(auto, unfolding(limits::specs::Blocks::blocks))]
 pub fn message_of(circuit: Circuit, i: u64) -> MessageSpan
     requires { Allowed circuit × (i < block_count circuit) }
     ensures { (result ≡ message_of circuit i) × OfMessage result i }
 {
     match circuit {
         Circuit::Record { bits } => MessageSpan { bits, begin: 0 },
-        Circuit::Axles { lower: _, upper: _ } => MessageSpan {
+        Circuit::Axles { .. } => MessageSpan {
             bits: AXLE_BITS,
             begin: 0,
         },
@@ -60,13 +62,13 @@ fn free_form(i: u64, b: u64) -> Form
 }
 
 // The form of bit b of block i, one of its message's content: a record's wire is free.
+
 pub fn content_form(circuit: Circuit, i: u64, b: u64) -> Form
     requires { Allowed circuit × (i < block_count circuit) × (b < 512) × (message_bit (message_of circuit i) i b < (message_of circuit i).bits) }
     ensures { (result ≡ content_form circuit i b) × Fit result }
 {
     match circuit {
-        Circuit::Record { bits: _ } => free_form(i, b),
-        Circuit::Axles { lower: _, upper: _ } => free_form(i, b),
+        Circuit::Record { .. } | Circuit::Axles { .. } => free_form(i, b),
     }
 }
 
@@ -76,8 +78,7 @@ pub fn content_is_free(circuit: Circuit, i: u64) -> bool
     ensures { result ≡ true → (b : ℕ) → content_form circuit i b ≡ Bit (record { 0 = block_first i + b }) }
 {
     match circuit {
-        Circuit::Record { bits: _ } => true,
-        Circuit::Axles { lower: _, upper: _ } => true,
+        Circuit::Record { .. } | Circuit::Axles { .. } => true,
     }
 }
 
@@ -87,8 +88,8 @@ pub fn appended_wires(circuit: Circuit) -> u64
     ensures { (result ≡ appended_wires circuit) × (result ≤ most_appended) }
 {
     match circuit {
-        Circuit::Record { bits: _ } => 0,
-        Circuit::Axles { lower: _, upper: _ } => 22,
+        Circuit::Record { .. } => 0,
+        Circuit::Axles { .. } => 22,
     }
 }
 
@@ -98,8 +99,8 @@ pub fn appended_rows(circuit: Circuit) -> u64
     ensures { (result ≡ appended_rows circuit) × (result ≤ most_appended) }
 {
     match circuit {
-        Circuit::Record { bits: _ } => 0,
-        Circuit::Axles { lower: _, upper: _ } => 34,
+        Circuit::Record { .. } => 0,
+        Circuit::Axles { .. } => 34,
     }
 }
 
@@ -109,7 +110,7 @@ pub fn appended_form(circuit: Circuit, k: u64) -> Form
     ensures { (result ≡ appended_form circuit k) × Fit result }
 {
     match circuit {
-        Circuit::Record { bits: _ } => Form::Bit { w: WireNumber(0) },
+        Circuit::Record { .. } => unreachable!(),
         Circuit::Axles { lower, upper } => axle_form(lower, upper, k),
     }
 }

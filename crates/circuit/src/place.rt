@@ -12,6 +12,7 @@ use refusal::numbers::RowNumber;
 pub const STATE_ROWS: u64 = 8 * 32;
 
 // How many rows a circuit has.
+#[tactic(auto, unfolding(crate::specs::Places::row_count))]
 pub fn row_count(circuit: Circuit) -> u64
     requires { Allowed circuit }
     ensures { (result ≡ row_count circuit) × (result ≤ most_rows) }
@@ -20,6 +21,7 @@ pub fn row_count(circuit: Circuit) -> u64
 }
 
 // The place of a row of a circuit of so many blocks.
+#[tactic(auto, unfolding(crate::specs::Places::place_at, crate::specs::Places::frame_layout, encoding::specs::Sequence::beside, encoding::specs::Sequence::grid))]
 pub fn place_of(blocks: u64, row: RowNumber) -> Place
     requires { blocks ≤ most_blocks }
     ensures { result ≡ place_at blocks row.0 }

@@ -16,6 +16,7 @@ use refusal::numbers::WireNumber;
 use sm3::constants::start_word;
 
 // Line l of start word k.
+#[tactic(auto, unfolding(crate::specs::Circuit::start_form, sm3::specs::Words::bit))]
 pub fn start_form(k: u64, l: u64) -> Form
     requires { InStep 0 Start k l }
     ensures { (result ≡ start_form k l) × Fit result }
@@ -28,6 +29,7 @@ pub fn start_form(k: u64, l: u64) -> Form
 }
 
 // Line l of digest word k, which is the last block's result.
+#[tactic(auto, unfolding(crate::specs::Circuit::digest_form))]
 pub fn digest_form(circuit: Circuit, k: u64, l: u64) -> Form
     requires { Allowed circuit × InStep 0 Digest k l }
     ensures { (result ≡ digest_form (block_first (block_count circuit - 1)) k l) × Fit result }

@@ -15,6 +15,7 @@ use limits::blocks::block_count;
 use refusal::numbers::WireNumber;
 
 // Bit k of a message of so many bits, past its content.
+#[tactic(auto, unfolding(sm3::specs::Message::message))]
 pub fn padding_bit(bits: u64, k: u64) -> u64
     requires { (bits ≤ most_bits) × (bits ≤ k) × (k < 512 * blocks bits) }
     ensures { (result ≡ message bits (λ i. 0) k) × (result < 2) }
@@ -30,6 +31,7 @@ pub fn padding_bit(bits: u64, k: u64) -> u64
 }
 
 // Bit b of block i, which is one of the message: its content is the circuit's, and its padding is fixed.
+#[tactic(auto, unfolding(crate::specs::Circuit::message_form))]
 pub fn message_form(circuit: Circuit, message: MessageSpan, i: u64, b: u64) -> Form
     requires { Allowed circuit × (i < block_count circuit) × (message ≡ message_of circuit i) × OfMessage message i × (b < 512) }
     ensures { (result ≡ message_form circuit message i b) × Fit result }
