@@ -76,9 +76,33 @@ pub fn axle_form(lower: u64, upper: u64, k: u64) -> Form
     match k {
         0..4 => high_half(tens, k),
         4..8 => high_half(units, k - 4),
-        8..13 => subtracted(digit_of(tens), Bound::Upper(9), 4, WireNumber(TENS_LEFT), k - 8),
-        13..18 => subtracted(digit_of(units), Bound::Upper(9), 4, WireNumber(UNITS_LEFT), k - 13),
-        18..26 => subtracted(axle_digits(), Bound::Lower(lower), 7, WireNumber(ABOVE_LOWER), k - 18),
-        _ => subtracted(axle_digits(), Bound::Upper(upper), 7, WireNumber(BELOW_UPPER), k - 26),
+        8..13 => subtracted(
+            digit_of(tens),
+            Bound::Upper(9),
+            4,
+            WireNumber(TENS_LEFT),
+            k - 8,
+        ),
+        13..18 => subtracted(
+            digit_of(units),
+            Bound::Upper(9),
+            4,
+            WireNumber(UNITS_LEFT),
+            k - 13,
+        ),
+        18..26 => subtracted(
+            axle_digits(),
+            Bound::Lower(lower),
+            7,
+            WireNumber(ABOVE_LOWER),
+            k - 18,
+        ),
+        _ => subtracted(
+            axle_digits(),
+            Bound::Upper(upper),
+            7,
+            WireNumber(BELOW_UPPER),
+            k - 26,
+        ),
     }
 }
