@@ -1,3 +1,4 @@
+pub mod Copied
 pub mod MessageBits
 pub mod PaddedBlock
 pub mod Padding

@@ -11,7 +11,7 @@ const START: [u32; 8] = [
 ];
 
 // T of each round, already rotated left by j mod 32.
-const ROTATED: [u32; 64] = [
+static ROTATED: [u32; 64] = [
     0x79cc4519, 0xf3988a32, 0xe7311465, 0xce6228cb, 0x9cc45197, 0x3988a32f, 0x7311465e, 0xe6228cbc,
     0xcc451979, 0x988a32f3, 0x311465e7, 0x6228cbce, 0xc451979c, 0x88a32f39, 0x11465e73, 0x228cbce6,
     0x9d8a7a87, 0x3b14f50f, 0x7629ea1e, 0xec53d43c, 0xd8a7a879, 0xb14f50f3, 0x629ea1e7, 0xc53d43ce,
@@ -37,6 +37,7 @@ pub fn rotated_constants() -> [u32; 64]
 }
 
 // Word k of those that block 0 begins with.
+#[tactic(auto, unfolding(crate::specs::Sm3::word_of))]
 pub fn start_word(k: usize) -> u32
     requires { k < 8 }
     ensures { result ≡ word_of start k }
@@ -49,6 +50,5 @@ pub fn rotated_constant(j: usize) -> u32
     requires { j < 64 }
     ensures { result ≡ rotated_constant j }
 {
-    let t = rotated_constants();
-    t[j]
+    ROTATED[j]
 }

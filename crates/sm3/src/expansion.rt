@@ -6,17 +6,17 @@ ghost use Rattle.encoding.specs.Bits.{bit_of_bytes};
 use crate::words::{p1, rotate_left};
 use encoding::read::word_at;
 
-// Wj of a block of 64 bytes, up to W15.
-fn block_word(bytes: &[u8], j: usize) -> u32
-    requires { (j < 16) × (length bytes.now ≡ 64) }
+// Wj of a block, up to W15.
+fn block_word(bytes: &[u8; 64], j: usize) -> u32
+    requires { j < 16 }
     ensures { result ≡ block_word (bit_of_bytes bytes.now) j }
 {
     word_at(bytes, 4 * j)
 }
 
-// The first n words of a block of 64 bytes, with room for the words after them.
-pub fn first_words(bytes: &[u8], n: usize) -> [u32; 68]
-    requires { (n ≤ 16) × (length bytes.now ≡ 64) }
+// The first n words of a block, with room for the words after them.
+pub fn first_words(bytes: &[u8; 64], n: usize) -> [u32; 68]
+    requires { n ≤ 16 }
     ensures { (length result ≡ 68) × (take n result ≡ expansion (bit_of_bytes bytes.now) n) }
 {
     let mut w = [0u32; 68];
@@ -27,6 +27,7 @@ pub fn first_words(bytes: &[u8], n: usize) -> [u32; 68]
 }
 
 // Wj from the words before it.
+#[tactic(auto, unfolding(crate::specs::Sm3::expanded, crate::specs::Sm3::mixed))]
 fn expanded_word(w: &[u32; 68], j: usize) -> u32
     requires { (16 ≤ j) × (j < 68) }
     ensures { result ≡ expanded w.now j }
@@ -36,12 +37,14 @@ fn expanded_word(w: &[u32; 68], j: usize) -> u32
 }
 
 // Wj after the words before it: up to W15 it is the block's.
-pub fn next_word(bytes: &[u8], w: &[u32; 68], j: usize) -> u32
-    requires { (j < 68) × (length bytes.now ≡ 64) }
+#[tactic(auto, unfolding(crate::specs::Sm3::next_word))]
+pub fn next_word(bytes: &[u8; 64], w: &[u32; 68], j: usize) -> u32
+    requires { j < 68 }
     ensures { result ≡ next_word (bit_of_bytes bytes.now) w.now j }
 {
     if j < 16 {
-        return block_word(bytes, j);
+        block_word(bytes, j)
+    } else {
+        expanded_word(w, j)
     }
-    expanded_word(w, j)
 }

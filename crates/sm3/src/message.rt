@@ -20,10 +20,9 @@ fn tail(bytes: &[u8], at: usize) -> [u8; 64]
     requires { length bytes.now ≤ at + 64 }
     ensures { result ≡ tab 64 (λ (k : ℕ). slice_index bytes.now (at + k)) }
 {
+    let rest = &bytes[at.min(bytes.len())..];
     let mut b = [0u8; 64];
-    for k in at..bytes.len() {
-        b[k - at] = bytes[k];
-    }
+    b[..rest.len()].copy_from_slice(rest);
     b
 }
 
@@ -82,30 +81,38 @@ fn padded(bits: u64, bytes: &[u8], i: usize) -> [u8; 64]
     b
 }
 
-// W0 to W15 of block i of the message, with room for the words after them. A block that the record fills is read in place.
+// Block i of the message, as bytes: the record's own where it fills the block, else they are laid out in `room`.
+#[tactic(auto, unfolding(limits::specs::Blocks::blocks))]
+fn message_block<'a>(bits: u64, bytes: &'a [u8], i: usize, room: &'a mut [u8; 64]) -> &'a [u8; 64]
+    requires { (bits ≤ most_bits) × (length bytes.now ≡ packed_length bits) × (i < blocks bits) }
+    ensures { (k : ℕ) → k < 512 → bit_of_bytes result.now k ≡ block_bits (message bits (bit_of_bytes bytes.now)) i k }
+{
+    let at = 64 * i;
+    if at + 64 <= (bits / 8) as usize {
+        return bytes[at..].first_chunk().unwrap();
+    }
+    *room = padded(bits, bytes, i);
+    room
+}
+
+// W0 to W15 of block i of the message, with room for the words after them.
+#[tactic(auto, using(crate::proofs::expansion::FirstWords::expansion_congruent))]
 pub fn message_words(bits: u64, bytes: &[u8], i: usize) -> [u32; 68]
     requires { (bits ≤ most_bits) × (length bytes.now ≡ packed_length bits) × (i < blocks bits) }
     ensures { (length result ≡ 68) × (take 16 result ≡ expansion (block_bits (message bits (bit_of_bytes bytes.now)) i) 16) }
 {
-    let at = 64 * i;
-    if at + 64 <= (bits / 8) as usize {
-        return first_words(&bytes[at..at + 64], 16);
-    }
-    let b = padded(bits, bytes, i);
-    first_words(&b, 16)
+    let mut room = [0u8; 64];
+    first_words(message_block(bits, bytes, i, &mut room), 16)
 }
 
-// What block i + 1 begins with, where block i begins with v. A block that the record fills is read in place.
+// What block i + 1 begins with, where block i begins with v.
+#[tactic(auto, using(crate::proofs::expansion::FirstWords::block_congruent))]
 fn next_state(v: State, bits: u64, bytes: &[u8], i: usize) -> State
     requires { (bits ≤ most_bits) × (length bytes.now ≡ packed_length bits) × (i < blocks bits) }
     ensures { result ≡ block (block_bits (message bits (bit_of_bytes bytes.now)) i) v }
 {
-    let at = 64 * i;
-    if at + 64 <= (bits / 8) as usize {
-        return compress(v, &bytes[at..at + 64]);
-    }
-    let b = padded(bits, bytes, i);
-    compress(v, &b)
+    let mut room = [0u8; 64];
+    compress(v, message_block(bits, bytes, i, &mut room))
 }
 
 // The words held after the first k blocks of the message, in one pass over the record: what block k begins with.
@@ -121,6 +128,7 @@ pub fn chaining_value(bits: u64, bytes: &[u8], k: usize) -> State
 }
 
 // The digest of a record of so many bits, as words: what is held after all blocks.
+#[tactic(auto, unfolding(crate::specs::Message::digest_of))]
 pub fn hash(bits: u64, bytes: &[u8]) -> State
     requires { (bits ≤ most_bits) × (length bytes.now ≡ packed_length bits) }
     ensures { result ≡ digest_of bits (bit_of_bytes bytes.now) }

@@ -127,13 +127,15 @@ module _ (n : ℕ) (bytes : List ℕ) where
       ∙ are (k / 8) (omega arith) (k % 8) (omega arith)
       ∙ ap (message n (bit_of_bytes bytes)) place
 
-  -- the m bytes of a block that lies within the record
-  pub record_bits : (i m : ℕ) → m ≡ 64 → 512 * i + 512 ≤ n → (k : ℕ) → k < 512
-      → bit_of_bytes (take m (drop (64 * i) bytes)) k ≡ block_bits (message n (bit_of_bytes bytes)) i k
+  -- the first 64 of the m bytes from a block on that lies within the record
+  pub record_bits : (i m : ℕ) → 64 ≤ m → 512 * i + 512 ≤ n → (k : ℕ) → k < 512
+      → bit_of_bytes (take 64 (take m (drop (64 * i) bytes))) k ≡ block_bits (message n (bit_of_bytes bytes)) i k
   unfolding bit_of_bytes block_bits
   record_bits i m e l k h =
       let place : 8 * (64 * i + k / 8) + k % 8 ≡ 512 * i + k = omega arith in
       ap (λ (t : ℕ). t / 2 ^ (7 - k % 8) % 2)
-      (get_or-take m (drop (64 * i) bytes) (k / 8) 0 (omega arith) ∙ get_or-drop (64 * i) bytes (k / 8) 0)
+      (get_or-take 64 (take m (drop (64 * i) bytes)) (k / 8) 0 (omega arith)
+      ∙ get_or-take m (drop (64 * i) bytes) (k / 8) 0 (omega arith)
+      ∙ get_or-drop (64 * i) bytes (k / 8) 0)
       ∙ in_record (64 * i + k / 8) (omega arith) (k % 8) (omega arith)
       ∙ ap (message n (bit_of_bytes bytes)) place

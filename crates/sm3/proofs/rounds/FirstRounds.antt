@@ -10,10 +10,10 @@ use Rattle.encoding.specs.Bits.{bit_of_bytes}
 use Rattle.encoding.specs.Sequence.{tab}
 
 -- with the first four words a block stands before round 0
-pub reached_first : (bytes t w : List ℕ) (v : State) → length bytes ≡ 64 → t ≡ tab 64 rotated_constant → length w ≡ 68
-    → take 4 w ≡ expansion (bit_of_bytes bytes) 4 → Reached bytes t v 0 w v
+pub reached_first : (bytes w : List ℕ) (v : State) → length w ≡ 68 → take 4 w ≡ expansion (bit_of_bytes bytes) 4
+    → Reached bytes v 0 w v
 unfolding rounds
-reached_first bytes t w v h e l first = record { whole = h; table = e; room = l; words = first; state = refl }
+reached_first bytes w v l first = record { room = l; words = first; state = refl }
 
 -- one round more
 pub rounds-next : (w : List ℕ) (v : State) (j : ℕ) → rounds w v (j + 1) ≡ round_of j (get_or w j 0) (w_prime w j) (rounds w v j)
@@ -30,11 +30,11 @@ get_or-first bits w m j h e =
     sym (get_or-take m w j 0 h) ∙ ap (λ (l : List ℕ). get_or l j 0) e ∙ get_or-expansion bits m j h
 
 -- the next word and the round on it
-pub reached_next : (bytes t : List ℕ) (v : State) (w : List ℕ) (s s' : State) (j x : ℕ) → j < 64
+pub reached_next : (bytes : List ℕ) (v : State) (w : List ℕ) (s s' : State) (j x : ℕ) → j < 64
     → x ≡ next_word (bit_of_bytes bytes) w (j + 4) → s' ≡ round_of j (get_or w j 0) (get_or w j 0 ⊕ x) s
-    → Reached bytes t v j w s → Reached bytes t v (j + 1) (set w (j + 4) x) s'
+    → Reached bytes v j w s → Reached bytes v (j + 1) (set w (j + 4) x) s'
 unfolding w_prime
-reached_next bytes t v w s s' j x h next made r =
+reached_next bytes v w s s' j x h next made r =
     let bits : ℕ → ℕ = bit_of_bytes bytes in
     let all : List ℕ = expansion bits 68 in
     let word : x ≡ W bits (j + 4) = next ∙ W-next bits w (j + 4) r.words in
@@ -45,8 +45,6 @@ reached_next bytes t v w s s' j x h next made r =
     let stored : Holds bits (set w (j + 4) x) (j + 4 + 1) =
     store_W (j + 4 + 1) (omega arith) word (record { full = r.room; words = r.words }) in
     record {
-      whole = r.whole;
-      table = r.table;
       room = stored.full;
       words = rw ahead stored.words;
       state = rw rounds-next (cc (made, here, there, r.state));

@@ -4,7 +4,7 @@ use Rattle.std.proofs.Common.{◌≡◌, ℕ, ◌+◌, ◌∙◌, ap₂, arith, 
 use Rattle.sm3.specs.Sm3.{◌⊕◌, FF, GG, P0, SS1, SS2, truncated, rotated_constant, round_of, sum_tt1, sum_tt2, sum_u}
 use Rattle.sm3.specs.Words.{rotate_left}
 use Rattle.sm3.specs.declared.state.State.{State}
-use Rattle.sm3.proofs.rounds.FirstRounds.{reached_next, table_at}
+use Rattle.sm3.proofs.rounds.FirstRounds.{reached_next}
 use Rattle.sm3.proofs.round.round.Goals as goal
 
 -- the words that a round makes, in the order of the code
@@ -35,9 +35,9 @@ returns c =
     let ff = c.ff.result in
     let here = get_or-set_other w (a.j + 4) a.j x 0 (omega arith) in
     let there = get_or-set_same w (a.j + 4) x 0 (omega arith) in
-    reached_next a.bytes.now a.t.now a.v w a.s _ a.j x c.requires.0 c.next_word.ensures
+    reached_next a.bytes.now a.v w a.s _ a.j x c.requires.0 c.next_word.ensures
     (round_made a.s a.j _ _ _
-    (table_at a.t.now a.j c.requires.0 r.table)
+    c.rotated_constant.ensures
     c.rotate_left-a12.ensures
     c.sum_of_3.ensures
     c.rotate_left-ss1.ensures
