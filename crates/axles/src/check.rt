@@ -8,6 +8,7 @@ use circuit::circuits::Circuit;
 use refusal::outcome::Refusal;
 
 // The check of an assignment of a record with axles between two bounds against a digest.
+#[tactic(auto, using(circuit::proofs::axles::Bounds::bounds_iff), unfolding(crate::specs::Check::axles_check_answer))]
 pub fn check(lower: u64, upper: u64, digest: &[u8], assignment: &[u8]) -> Result<(), Refusal>
     ensures { result ≡ axles_check_answer lower upper digest.now assignment.now }
 {

@@ -1,1 +1,2 @@
 pub mod EntriesAsked
+pub mod PackAnswer

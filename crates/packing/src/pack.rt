@@ -8,7 +8,7 @@ ghost use Rattle.encoding.specs.Written.{Written};
 ghost use Rattle.packing.specs.Pack.{bits_answer, pack_answer, pack_left};
 
 use agreement::word_read::number_from;
-use assignment::bounded::{Lowest, below_prime, lowest_not_below};
+use assignment::bounded::{below_prime, lowest_not_below};
 use assignment::entry::read;
 use circuit::circuits::Circuit;
 use circuit::wire::wire_count;
@@ -20,6 +20,7 @@ use refusal::outcome::Refusal;
 
 // Refusal 20, or else 10, for the lowest of the first n entries that calls for it, if there is one. Bits are below the prime, so the
 // entries of an honest assignment are read through only once.
+#[tactic(auto, using(crate::proofs::pack::EntriesAsked::asked_none, crate::proofs::pack::EntriesAsked::asked_refused, crate::proofs::pack::EntriesAsked::asked_bit))]
 fn entries_asked(assignment: &[u8], n: u64) -> Result<(), Refusal>
     requires { 8 * n ≤ length assignment.now }
     ensures { result ≡ below_prime_answer n assignment.now (bits_answer n assignment.now) }
@@ -27,10 +28,8 @@ fn entries_asked(assignment: &[u8], n: u64) -> Result<(), Refusal>
     let Some(wire) = lowest_not_below(assignment, n, 2) else {
         return Ok(());
     };
-    match below_prime(assignment, n) {
-        Ok(()) => Err(Refusal::EntryNotBit(wire)),
-        Err(refusal) => Err(refusal),
-    }
+    below_prime(assignment, n)?;
+    Err(Refusal::EntryNotBit(wire))
 }
 
 // The first words of an assignment, whose wires are bits, four bytes each. They are written from the last on: when all words
@@ -39,9 +38,7 @@ fn put_words(assignment: &[u8], words: usize, out: &mut [u8])
     requires { (256 * words ≤ length assignment.now) × (4 * words ≤ length out.old) × ((w : ℕ) → w < 32 * words → entry assignment.now w < 2) }
     ensures { Written 0 (bytes_of_bits (4 * words) (entry assignment.now)) out.old out.new }
 {
-    let mut j = words;
-    while 0 < j {
-        j -= 1;
+    for j in (0..words).rev() {
         let x = number_from(assignment, WireNumber(32 * j as u64));
         put_word(out, 4 * j, x as u32);
     }
@@ -59,6 +56,7 @@ fn put_packed(assignment: &[u8], wires: u64, out: &mut [u8])
 }
 
 // An assignment for records of so many bits, packed into the front of `out`.
+#[tactic(auto, using(limits::proofs::limit::Tests::length_stands, limits::proofs::limit::Tests::length_range, crate::proofs::pack::PackAnswer::entries_decide), unfolding(crate::specs::Pack::pack_answer))]
 pub fn pack(limit: u64, bits: u64, assignment: &[u8], out: &mut [u8]) -> Result<(), Refusal>
     ensures value { result ≡ pack_answer limit bits assignment.now (length out.old) }
     ensures out_after { out.new ≡ pack_left result bits assignment.now out.old }

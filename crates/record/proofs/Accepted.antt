@@ -1,6 +1,6 @@
 -- When the check of a record's assignment accepts: where the limit allows the length and the circuit's check accepts.
 use Rattle.refusal.specs.Refusals.{done}
-use Rattle.std.specs.Prelude.{Err, Ok}
+use Rattle.std.specs.Prelude.{Err}
 use mathlib.Core.List.{List}
 use mathlib.Core.Logic.Iff
 use mathlib.Core.Logic.{◌↔◌}

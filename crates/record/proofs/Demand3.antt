@@ -1,7 +1,6 @@
 -- Demand 3, an instance of the law of exact acceptance. The witness is a record in its bytes: its wires are the layout's, its digest is its SM3,
 -- and it is read off the record wires and packed into bytes. The rows hold exactly where the wires are those of the record that is read off.
 use Rattle.refusal.specs.Refusals.{done}
-use Rattle.std.specs.Prelude.{Ok}
 use mathlib.Core.List.{List}
 use mathlib.Core.Path.{◌≡◌, ◌∙◌, subst, sym}
 use Prim.Native.Nat.{ℕ, ◌+◌, ◌*◌, ◌<◌, ◌≤◌}

@@ -1,5 +1,5 @@
 -- What follows the tests of a limit and a length is none of their refusals, and `produce` asks the record's bytes before 22.
-use Rattle.std.specs.Prelude.{Err, Ok}
+use Rattle.std.specs.Prelude.{Err}
 use mathlib.Core.Bool.{cond}
 use mathlib.Core.List.{List, []}
 use mathlib.Core.Path.{refl}

@@ -3,7 +3,7 @@
 use Rattle.forms.specs.declared.terms.Counts.{Counts}
 use Rattle.refusal.specs.declared.outcome.Refusal.{Refusal}
 use Rattle.refusal.specs.Refusals.{done}
-use Rattle.std.specs.Prelude.{Err, Ok, Result}
+use Rattle.std.specs.Prelude.{Err, Result}
 use mathlib.Core.Bool.{cond}
 use mathlib.Core.Path.{◌∙◌, ap, ap₂}
 use Prim.Native.Nat.{◌*◌}

@@ -4,7 +4,7 @@
 -- Everything is said of raw bytes, as they are lent, and of the definitions that the contracts of
 -- `check`, `produce` and `digest` cite.
 use Rattle.refusal.specs.Refusals.{done}
-use Rattle.std.specs.Prelude.{List, ◌↔◌, ◌≡◌, ℕ, ◌*◌, ◌<◌, ◌≤◌, length, take, Ok}
+use Rattle.std.specs.Prelude.{List, ◌↔◌, ◌≡◌, ℕ, ◌*◌, ◌<◌, ◌≤◌, length, take}
 use Rattle.assignment.specs.Assignment.{wire_bytes}
 use Rattle.circuit.specs.Wires.{wire_count}
 use Rattle.circuit.specs.declared.circuits.Circuit.TheVariants.{Record}

@@ -1,6 +1,6 @@
 -- The answer of `produce` and the bytes that it leaves (document 01, "Refusals in checking order"; document 02,
 -- requests 2 and 8).
-use Rattle.std.specs.Prelude.{cond, List, ◌++◌, ℕ, ◌*◌, ltb, drop, Err, Ok}
+use Rattle.std.specs.Prelude.{cond, List, ◌++◌, ℕ, ◌*◌, ltb, drop, Err}
 use Rattle.assignment.specs.Assignment.{entry_bytes}
 use Rattle.circuit.specs.Wires.{wire_count}
 use Rattle.circuit.specs.declared.circuits.Circuit.TheVariants.{Record}

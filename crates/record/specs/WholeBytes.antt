@@ -1,7 +1,7 @@
 -- Records of whole bytes: what document 01 says of the wires and answers of a record of L bytes, in its own unit, is what the
 -- definitions give for 8 L bits (document 02, request 2).
 use Rattle.refusal.specs.Refusals.{done}
-use Rattle.std.specs.Prelude.{cond, not, List, ◌≡◌, ℕ, ◌+◌, ◌*◌, eqb, leb, ltb, length, Err, Ok}
+use Rattle.std.specs.Prelude.{cond, not, List, ◌≡◌, ℕ, ◌+◌, ◌*◌, eqb, leb, ltb, length, Err}
 use Rattle.assignment.specs.Assignment.{entry}
 use Rattle.assignment.specs.BelowPrime.{below_prime_answer}
 use Rattle.block.specs.MessageWires.{message_wires}

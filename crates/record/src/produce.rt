@@ -40,7 +40,7 @@ pub fn put_assignment(out: &mut [u8], bits: u64, bytes: &[u8])
 }
 
 // The assignment of a record of so many bits, and of no more blocks than the limit, into the first bytes of `out`.
-#[tactic(auto, using(limits::proofs::handed::Asked::handed_stands, limits::proofs::handed::Asked::handed_passed, limits::proofs::handed::Asked::handed_range, assignment::proofs::Writes::wrote_front), unfolding(crate::specs::Produce::assignment_of))]
+#[tactic(auto, using(limits::proofs::handed::Asked::handed_stands, limits::proofs::handed::Asked::handed_passed, limits::proofs::handed::Asked::handed_range))]
 pub fn produce(limit: u64, bits: u64, bytes: &[u8], out: &mut [u8]) -> Result<(), Refusal>
     ensures value { result ≡ produce_answer limit bits bytes.now (length out.old) }
     ensures out_after { out.new ≡ produce_left result bits bytes.now out.old }

@@ -20,30 +20,17 @@ use Rattle.limits.specs.Limit.{length_answer}
 use Rattle.packing.proofs.WordBytes.{one_over}
 use Rattle.packing.proofs.pack.EntriesAsked.{asked_done}
 use Rattle.packing.specs.Pack.{bits_answer, pack_answer}
+use Rattle.packing.proofs.pack.PackAnswer.{entries_decide}
 use Rattle.packing.proofs.pack.pack.Goals as goal
 
--- past the tests of the lengths, what the m entries are answered is the answer
-entries_decide : (l n m room : ℕ) (a : List ℕ) → m ≡ wire_count (Record n) → length_answer l n done ≡ done → packed_length m ≤ room → length a ≡ 8 * m
-    → below_prime_answer m a (bits_answer m a) ≡ pack_answer l n a room
-unfolding pack_answer
-entries_decide l n m room a counted allowed enough long =
-    rw (← counted) (sym ((length_before l n).passed _ allowed ∙ simp (le-ltb room (packed_length m) enough, eq-eqb (length a) (8 * m) long)))
-
-pub returns-in-Refused : goal.returns-in-Refused
-unfolding pack_answer
-returns-in-Refused c = record {
-  value = sym ((length_before _ _).stands _ _ (sym c.ask_length-allowed.ensures ∙ c.in-Refused.is));
-  out_after = refl;
-}
-
 pub wire_count-wires-requires : goal.wire_count-wires-requires
-wire_count-wires-requires c = allowed_range ((length_done _ _).0 (sym c.ask_length-allowed.ensures ∙ c.in_default.is)).0
+wire_count-wires-requires c = allowed_range ((length_done _ _).0 (sym c.ask_length.ensures ∙ c.in_ok-ask_length.was)).0
 
 pub returns-then-out-room : goal.returns-then-out-room
 unfolding pack_answer
 returns-then-out-room c =
     let a = c.args in
-    let allowed : length_answer a.limit a.bits done ≡ done = sym c.ask_length-allowed.ensures ∙ c.in_default.is in
+    let allowed : length_answer a.limit a.bits done ≡ done = sym c.ask_length.ensures ∙ c.in_ok-ask_length.was in
     let short : length a.out.now < packed_length (wire_count (Record a.bits)) = omega arith in
     record {
       value = sym ((length_before _ _).passed _ allowed ∙ simp (lt-ltb _ _ short));
@@ -55,23 +42,12 @@ unfolding pack_answer
 returns-then-assignment-bytes c =
     let counted = c.wire_count-wires.ensures.0 in
     let a = c.args in
-    let allowed : length_answer a.limit a.bits done ≡ done = sym c.ask_length-allowed.ensures ∙ c.in_default.is in
+    let allowed : length_answer a.limit a.bits done ≡ done = sym c.ask_length.ensures ∙ c.in_ok-ask_length.was in
     let room : packed_length (wire_count (Record a.bits)) ≤ length a.out.now = omega arith in
     let wrong : length a.assignment.now ≡ 8 * wire_count (Record a.bits) → ⊥ =
     λ e. c.if-assignment-bytes.true (e ∙ ap (λ m. 8 * m) (sym counted)) in
     record {
       value = sym ((length_before _ _).passed _ allowed ∙ simp (le-ltb _ _ room, ne_eqb _ _ wrong));
-      out_after = refl;
-    }
-
-pub returns-in-Refused-asked : goal.returns-in-Refused-asked
-returns-in-Refused-asked c =
-    let a = c.args in
-    let allowed : length_answer a.limit a.bits done ≡ done = sym c.ask_length-allowed.ensures ∙ c.in_default.is in
-    record {
-      value = sym c.in-Refused-asked.is
-          ∙ c.entries_asked-asked.ensures
-          ∙ entries_decide _ _ _ _ a.assignment.now c.wire_count-wires.ensures.0 allowed (omega arith) c.if-assignment-bytes.false;
       out_after = refl;
     }
 
@@ -81,17 +57,17 @@ put_packed-requires c =
       omega (arith, one_over a.bits),
       omega arith,
       omega arith,
-      (asked_done _ a.assignment.now).0 (sym c.entries_asked-asked.ensures ∙ c.in_default-asked.is),
+      (asked_done _ a.assignment.now).0 (sym c.entries_asked.ensures ∙ c.in_ok-entries_asked.was),
     )
 
 pub returns : goal.returns
 returns c =
     let a = c.args in
-    let allowed : length_answer a.limit a.bits done ≡ done = sym c.ask_length-allowed.ensures ∙ c.in_default.is in
+    let allowed : length_answer a.limit a.bits done ≡ done = sym c.ask_length.ensures ∙ c.in_ok-ask_length.was in
     let wires : ℕ = wire_count (Record a.bits) in
     record {
-      value = sym c.in_default-asked.is
-          ∙ c.entries_asked-asked.ensures
+      value = sym c.in_ok-entries_asked.was
+          ∙ c.entries_asked.ensures
           ∙ entries_decide _ _ _ _ a.assignment.now c.wire_count-wires.ensures.0 allowed (omega arith) c.if-assignment-bytes.false;
       out_after = written-front (packed_length wires) (length-packed wires (entry a.assignment.now)) (omega arith)
           (written_as (ap (λ m. packed_bytes m (entry a.assignment.now)) c.wire_count-wires.ensures.0) c.put_packed.ensures);

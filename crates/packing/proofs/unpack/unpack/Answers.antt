@@ -20,21 +20,14 @@ use Rattle.packing.specs.Packed.{unpacked_bytes}
 use Rattle.packing.specs.Unpack.{packed_answer, unpack_answer}
 use Rattle.packing.proofs.unpack.unpack.Goals as goal
 
-pub returns-in-Refused : goal.returns-in-Refused
-unfolding unpack_answer
-returns-in-Refused c = record {
-  value = sym ((length_before _ _).stands _ _ (sym c.ask_length-allowed.ensures ∙ c.in-Refused.is));
-  out_after = refl;
-}
-
 pub wire_count-wires-requires : goal.wire_count-wires-requires
-wire_count-wires-requires c = allowed_range ((length_done _ _).0 (sym c.ask_length-allowed.ensures ∙ c.in_default.is)).0
+wire_count-wires-requires c = allowed_range ((length_done _ _).0 (sym c.ask_length.ensures ∙ c.in_ok-ask_length.was)).0
 
 pub returns-then-out-wires : goal.returns-then-out-wires
 unfolding unpack_answer
 returns-then-out-wires c =
     let a = c.args in
-    let allowed : length_answer a.limit a.bits done ≡ done = sym c.ask_length-allowed.ensures ∙ c.in_default.is in
+    let allowed : length_answer a.limit a.bits done ≡ done = sym c.ask_length.ensures ∙ c.in_ok-ask_length.was in
     let short : length a.out.now < 8 * wire_count (Record a.bits) = omega arith in
     record {
       value = sym ((length_before _ _).passed _ allowed ∙ simp (lt-ltb _ _ short));
@@ -46,7 +39,7 @@ unfolding unpack_answer packed_answer
 returns-then-packed-packed_length c =
     let counted = c.wire_count-wires.ensures.0 in
     let a = c.args in
-    let allowed : length_answer a.limit a.bits done ≡ done = sym c.ask_length-allowed.ensures ∙ c.in_default.is in
+    let allowed : length_answer a.limit a.bits done ≡ done = sym c.ask_length.ensures ∙ c.in_ok-ask_length.was in
     let room : 8 * wire_count (Record a.bits) ≤ length a.out.now = omega arith in
     let wrong : length a.packed.now ≡ packed_length (wire_count (Record a.bits)) → ⊥ =
     λ e. c.if-packed-packed_length.true (e ∙ ap packed_length (sym counted) ∙ sym c.packed_length.ensures) in
@@ -63,7 +56,7 @@ unfolding unpack_answer packed_answer
 returns-then-spare_bits-ne0 c =
     let counted = c.wire_count-wires.ensures.0 in
     let a = c.args in
-    let allowed : length_answer a.limit a.bits done ≡ done = sym c.ask_length-allowed.ensures ∙ c.in_default.is in
+    let allowed : length_answer a.limit a.bits done ≡ done = sym c.ask_length.ensures ∙ c.in_ok-ask_length.was in
     let wires : ℕ = wire_count (Record a.bits) in
     let room : 8 * wires ≤ length a.out.now = omega arith in
     let long : length a.packed.now ≡ packed_length wires =
@@ -81,7 +74,7 @@ returns c =
     let counted = c.wire_count-wires.ensures.0 in
     let a = c.args in
     let p = a.packed.now in
-    let allowed : length_answer a.limit a.bits done ≡ done = sym c.ask_length-allowed.ensures ∙ c.in_default.is in
+    let allowed : length_answer a.limit a.bits done ≡ done = sym c.ask_length.ensures ∙ c.in_ok-ask_length.was in
     let wires : ℕ = wire_count (Record a.bits) in
     let over : wires % 64 ≡ 1 = one_over a.bits in
     let room : 8 * wires ≤ length a.out.now = omega arith in

@@ -1,20 +1,12 @@
--- A limit or a length that is refused is refused; past both the answer is the circuit's.
-use mathlib.Core.Path.{◌∙◌, sym}
-use Rattle.limits.proofs.limit.Decided.{allowed_range}
-use Rattle.limits.proofs.limit.Tests.{length_before, length_done}
+-- A length that is refused is refused whatever the check would say.
+use mathlib.Core.Path.{sym, ◌∙◌}
+use Rattle.std.proofs.lemmas.Result.{err_from_is_err_and}
+use Rattle.limits.proofs.limit.Tests.{length_stands}
 use Rattle.record.specs.Check.{check_answer}
 use Rattle.record.proofs.check.check.Goals as goal
 
-pub returns-in-Refused : goal.returns-in-Refused
+pub returns-in_err-ask_length : goal.returns-in_err-ask_length
 unfolding check_answer
-returns-in-Refused c =
-    sym ((length_before _ _).stands _ _ (sym c.ask_length-allowed.ensures ∙ c.in-Refused.is))
-
-pub check_circuit-requires : goal.check_circuit-requires
-check_circuit-requires c =
-    allowed_range ((length_done _ _).0 (sym c.ask_length-allowed.ensures ∙ c.in_default.is)).0
-
-pub returns : goal.returns
-unfolding check_answer
-returns c =
-    c.check_circuit.ensures ∙ sym ((length_before _ _).passed _ (sym c.ask_length-allowed.ensures ∙ c.in_default.is))
+returns-in_err-ask_length c =
+    let p = err_from_is_err_and c.from_residual.result c.from_residual.ensures.1 in
+    rw (p.1, p.2) (sym (length_stands _ _ _ _ (sym c.ask_length.ensures ∙ c.in_err-ask_length.was)))
