@@ -6,5 +6,6 @@ use listing::progress::Listing;
 use listing::request::Front;
 
 fn main(rt: HostRuntime) {
-    run(&rt, Listing::Rows, Front::Bounds);
+    // What fails has been said on standard error.
+    let _ = run(&rt, Listing::Rows, Front::Bounds);
 }

@@ -11,102 +11,87 @@ use borrow.Author.Tests.{eq-eqb, ne_eqb}
 use lib.Dec.{eqb}
 use lib.ListN.{length, take}
 use lib.Seq.{length-take-le, take_all}
-use Rattle.circuit.specs.declared.circuits.Circuit.{Circuit}
-use Rattle.refusal.specs.declared.numbers.RowNumber.{RowNumber}
+use Rattle.std.specs.Prelude.{Err, None, Ok, Option, Some}
 use Rattle.listing.specs.Listing.{lines, lines_from, printed, prints}
-use Rattle.listing.specs.Progress.{Possible, PrintsAll, Run, chunk, chunk_of, ended, next_of, past, room, rows_fitting, unfinished}
-use Rattle.listing.specs.Request.{request_of}
+use Rattle.listing.specs.Progress.{IfPossible, Possible, PrintsAll, Run, chunk, chunk_of, ended, next_of, past, room, rows_fitting}
+use Rattle.listing.specs.Request.{Request, request_of, rows}
 use Rattle.listing.specs.declared.progress.Listing.{Listing}
 use Rattle.listing.specs.declared.progress.Progress.{Progress}
-use Rattle.listing.specs.declared.progress.Progress.TheVariants.{Begun, Done, Lines}
+use Rattle.listing.specs.declared.progress.Progress.TheVariants.{Begun, Lines}
 use Rattle.listing.specs.declared.request.Front.{Front}
-use Rattle.listing.specs.declared.request.Request.{Request}
-use Rattle.listing.specs.declared.request.Request.TheVariants.{BadLine, Refused, Rows}
+use Rattle.listing.specs.declared.request.Rows.{Rows}
 use Rattle.listing.proofs.Chunks.{fitting_le, fitting-more}
 use Rattle.listing.proofs.Lines.{lines_split}
 use Rattle.listing.proofs.Requests.{long_bad}
 
 -- what is still to be printed, and a bound on how many chunks that takes
-abbrev rest : Listing → Progress → List ℕ
-rest l (Begun q) = printed l q
-rest l (Lines C k m) = lines_from (lines l C) k.0 m
-rest l Done = []
+abbrev rest : Listing → Option Progress → List ℕ
+rest l (Some (Begun q)) = printed l q
+rest l (Some (Lines q)) = lines_from (lines l q.circuit) q.first.0 q.many
+rest l None = []
 
-abbrev pub asked : Request → ℕ
-asked (Rows C f h) = h + 1
-asked BadLine = 0
-asked (Refused r) = 0
-
-abbrev pub left : Progress → ℕ
-left (Begun q) = asked q + 1
-left (Lines C k m) = m + 1
-left Done = 0
+abbrev pub left : Option Progress → ℕ
+left (Some (Begun (Ok q))) = q.many + 2
+left (Some (Begun (Err r))) = 1
+left (Some (Lines q)) = q.many + 1
+left None = 0
 
 module _ (l : Listing) (n : ℕ) where
-  -- behind j of m rows
-  module _ (C : Circuit) (k : RowNumber) (m j : ℕ) (some : j ≤ m) where
-    rest-past : lines_from (lines l C) k.0 m ≡ lines_from (lines l C) k.0 j ++ rest l (past C k m j)
-    rest-past = by (ℕ_discrete j m)
+  -- behind j of some rows
+  module _ (q : Rows) (j : ℕ) (some : j ≤ q.many) where
+    rest-past : lines_from (lines l q.circuit) q.first.0 q.many ≡ lines_from (lines l q.circuit) q.first.0 j ++ rest l (past q j)
+    rest-past = by (ℕ_discrete j q.many)
       where
-        by : Dec (j ≡ m) → lines_from (lines l C) k.0 m ≡ lines_from (lines l C) k.0 j ++ rest l (past C k m j)
-        by (yes all) = simp (eq-eqb j m all, append-nil) (ap (lines_from (lines l C) k.0) (sym all))
+        by : Dec (j ≡ q.many) → lines_from (lines l q.circuit) q.first.0 q.many ≡ lines_from (lines l q.circuit) q.first.0 j ++ rest l (past q j)
+        by (yes all) = simp (eq-eqb j q.many all, append-nil) (ap (lines_from (lines l q.circuit) q.first.0) (sym all))
         by (no fewer) =
-            let whole : m ≡ j + (m - j) = omega arith in
-            simp (ne_eqb j m fewer)
-            (ap (lines_from (lines l C) k.0) whole ∙ lines_split (lines l C) k.0 j (m - j))
+            let whole : q.many ≡ j + (q.many - j) = omega arith in
+            simp (ne_eqb j q.many fewer)
+            (ap (lines_from (lines l q.circuit) q.first.0) whole ∙ lines_split (lines l q.circuit) q.first.0 j (q.many - j))
 
-    left-past : (0 < m → 0 < j) → left (past C k m j) < m + 1
-    left-past moved = by (ℕ_discrete j m)
+    left-past : (0 < q.many → 0 < j) → left (past q j) < q.many + 1
+    left-past moved = by (ℕ_discrete j q.many)
       where
-        by : Dec (j ≡ m) → left (past C k m j) < m + 1
-        by (yes all) = simp (eq-eqb j m all) (omega arith)
+        by : Dec (j ≡ q.many) → left (past q j) < q.many + 1
+        by (yes all) = simp (eq-eqb j q.many all) (omega arith)
         by (no fewer) =
             let one : 0 < j = moved (omega arith) in
-            simp (ne_eqb j m fewer) (omega arith)
+            simp (ne_eqb j q.many fewer) (omega arith)
 
-  splits : (p : Progress) → rest l p ≡ chunk_of l n p ++ rest l (next_of l n p)
-  splits (Begun (Rows C f h)) = refl
-  splits (Begun BadLine) = sym (append-nil _)
-  splits (Begun (Refused r)) = sym (append-nil _)
-  splits (Lines C k m) = rest-past C k m (rows_fitting l n C k m) (fitting_le (room l) (lines l C) k.0 m n)
-  splits Done = refl
+  splits : (p : Progress) → rest l (Some p) ≡ chunk_of l n p ++ rest l (next_of l n p)
+  splits (Begun (Ok q)) = refl
+  splits (Begun (Err r)) = sym (append-nil _)
+  splits (Lines q) = rest-past q (rows_fitting l n q) (fitting_le (room l) (lines l q.circuit) q.first.0 q.many n)
 
   module _ (space : room l ≤ n) where
-    one-fits : (C : Circuit) (k : RowNumber) (m : ℕ) → 0 < m → 0 < rows_fitting l n C k m
-    one-fits C k zero more = absurd (not-suc-le-zero more)
-    one-fits C k (suc m) more = rw (fitting-more (room l) (lines l C) k.0 m n space) (omega arith)
+    one-fits : (q : Rows) → 0 < q.many → 0 < rows_fitting l n q
+    one-fits q more =
+        let one : q.many ≡ suc (q.many - 1) = omega arith in
+        rw one (rw (fitting-more (room l) (lines l q.circuit) q.first.0 (q.many - 1) n space) (omega arith))
 
-    pub falls : (p : Progress) → unfinished p ≡ true → left (next_of l n p) < left p
-    falls (Begun (Rows C f h)) more = omega arith
-    falls (Begun BadLine) more = omega arith
-    falls (Begun (Refused r)) more = omega arith
-    falls (Lines C k m) more =
-        left-past C k m (rows_fitting l n C k m) (fitting_le (room l) (lines l C) k.0 m n) (one-fits C k m)
-    falls Done more = let z : ◌≡◌ {A = ℕ} 0 1 = cc in omega arith
+    pub falls : (p : Progress) → left (next_of l n p) < left (Some p)
+    falls (Begun (Ok q)) = omega arith
+    falls (Begun (Err r)) = omega arith
+    falls (Lines q) =
+        left-past q (rows_fitting l n q) (fitting_le (room l) (lines l q.circuit) q.first.0 q.many n) (one-fits q)
 
-    onward : (p : Progress) → unfinished p ≡ true → (left (next_of l n p) < left p → Run l n (next_of l n p) (rest l (next_of l n p))) → Run l n p (rest l p)
-    onward p some further = subst (Run l n p) (sym (splits p)) (chunk p (further (falls p some)))
-
-    runs : (bound : ℕ) (p : Progress) → left p < bound → Run l n p (rest l p)
+    runs : (bound : ℕ) (p : Option Progress) → left p < bound → Run l n p (rest l p)
     runs zero p below = absurd (not-suc-le-zero below)
-    runs (suc bound) Done below = ended
-    runs (suc bound) (Begun q) below =
-        onward (Begun q) refl (λ less. runs bound (next_of l n (Begun q)) (omega arith))
-    runs (suc bound) (Lines C k m) below =
-        onward (Lines C k m) refl (λ less. runs bound (next_of l n (Lines C k m)) (omega arith))
+    runs (suc bound) None below = ended
+    runs (suc bound) (Some p) below =
+        let less : left (next_of l n p) < left (Some p) = falls p in
+        subst (Run l n (Some p)) (sym (splits p)) (chunk p (runs bound (next_of l n p) (omega arith)))
 
   -- rows that are left exist if all did
-  pub possible_next : (p : Progress) → Possible p → Possible (next_of l n p)
-  possible_next (Begun (Rows C f h)) exist = exist
-  possible_next (Begun BadLine) exist = tt
-  possible_next (Begun (Refused r)) exist = tt
-  possible_next (Lines C k m) exist =
-      by (eqb (rows_fitting l n C k m) m) (fitting_le (room l) (lines l C) k.0 m n)
+  pub possible_next : (p : Progress) → Possible p → IfPossible (next_of l n p)
+  possible_next (Begun (Ok q)) exist = exist
+  possible_next (Begun (Err r)) exist = tt
+  possible_next (Lines q) exist =
+      by (eqb (rows_fitting l n q) q.many) (fitting_le (room l) (lines l q.circuit) q.first.0 q.many n)
     where
-      by : (all : Bool) → rows_fitting l n C k m ≤ m → Possible (cond all Done (Lines C (record { 0 = k.0 + rows_fitting l n C k m }) (m - rows_fitting l n C k m)))
+      by : (all : Bool) → rows_fitting l n q ≤ q.many → IfPossible (cond all None (Some (Lines (rows q.circuit (q.first.0 + rows_fitting l n q) (q.many - rows_fitting l n q)))))
       by true some = tt
       by false some = (exist.0, omega (arith, exist.1))
-  possible_next Done exist = tt
 
 -- a line of more than 40 bytes is refused, whatever stands behind them
 enough : (t : Front) (m : ℕ) (s : List ℕ) → 41 ≤ m → request_of t (take m s) ≡ request_of t s
@@ -121,6 +106,5 @@ enough t m s most = by (dec_lt m (length s))
 pub prints_all : PrintsAll
 unfolding prints
 prints_all l t n m s space most =
-    let q = request_of t (take m s) in
-    subst (λ (r : Request). Run l n (Begun q) (printed l r)) (enough t m s most)
-    (runs l n space (left (Begun q) + 1) (Begun q) (omega arith))
+    let p = Some (Begun (request_of t (take m s))) in
+    subst (λ (r : Request). Run l n p (printed l r)) (enough t m s most) (runs l n space (left p + 1) p (omega arith))

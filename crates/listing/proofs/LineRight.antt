@@ -9,9 +9,10 @@ use lib.ListN.{length, length-append}
 use Rattle.text.proofs.AfterField.{goes_on, length-field, past}
 use Rattle.text.specs.Decimal.{field}
 use Rattle.text.specs.Text.{comma, line_feed}
-use Rattle.listing.specs.Line.{Right, ended, line, parse_of}
+use Rattle.std.proofs.lemmas.Option.{none-some, same_Some}
+use Rattle.std.specs.Prelude.{None, Option, Some}
+use Rattle.listing.specs.Line.{Right, ended, line, numbers, parse_of}
 use Rattle.listing.specs.declared.line.Parsed.{Parsed}
-use Rattle.listing.specs.declared.line.Parsed.TheVariants.{Numbers, Malformed}
 
 -- a right line, field by field
 fields : ℕ → ℕ → ℕ → List ℕ
@@ -21,15 +22,15 @@ line_fields : (n f h : ℕ) → line n f h ≡ fields n f h
 unfolding line fields
 line_fields n f h = simp (append_assoc, append-nil)
 
-read_whole : (n f h : ℕ) → n < 1000000000 → f < 1000000000 → h < 1000000000 → parse_of (fields n f h) ≡ Numbers n f h
+read_whole : (n f h : ℕ) → n < 1000000000 → f < 1000000000 → h < 1000000000 → parse_of (fields n f h) ≡ numbers n f h
 unfolding parse_of fields
 read_whole n f h n-below f-below h-below =
-    goes_on Malformed comma _ (omega arith) n n-below (field f comma ++ (field h line_feed ++ []))
-    ∙ goes_on Malformed comma _ (omega arith) f f-below (field h line_feed ++ [])
-    ∙ goes_on Malformed line_feed _ (omega arith) h h-below []
+    goes_on None comma _ (omega arith) n n-below (field f comma ++ (field h line_feed ++ []))
+    ∙ goes_on None comma _ (omega arith) f f-below (field h line_feed ++ [])
+    ∙ goes_on None line_feed _ (omega arith) h h-below []
 
-never : {n f h : ℕ} → Malformed ≡ Numbers n f h → ⊥
-never e = let z : ◌≡◌ {A = ℕ} 0 1 = cc in omega arith
+never : {n f h : ℕ} → None ≡ numbers n f h → ⊥
+never e = none-some _ e
 
 -- nothing stands after the third field
 all_read :
@@ -38,39 +39,40 @@ all_read :
     → t₁ ≡ field b comma ++ t₂
     → t₂ ≡ field c line_feed ++ t₃
     → (a < 1000000000) × (b < 1000000000) × (c < 1000000000)
-    → ended t₃ (Numbers a b c) ≡ Numbers n f h
+    → ended t₃ (numbers a b c) ≡ numbers n f h
     → Right s n f h
 unfolding fields
 all_read s t₁ t₂ [] a b c n f h is₁ is₂ is₃ below e =
-    let a_n : a ≡ n = cc in
-    let b_f : b ≡ f = cc in
-    let c_h : c ≡ h = cc in
+    let read = same_Some _ _ e in
+    let a_n : a ≡ n = ap (λ (r : Parsed). r.leading) read in
+    let b_f : b ≡ f = ap (λ (r : Parsed). r.first) read in
+    let c_h : c ≡ h = ap (λ (r : Parsed). r.many) read in
     let whole : s ≡ fields a b c = cc in
     let same : line a b c ≡ line n f h = cc in
     (rw a_n at below.0, rw b_f at below.1, rw c_h at below.2, whole ∙ sym (line_fields a b c) ∙ same)
 all_read s t₁ t₂ (x ∷ t₃) a b c n f h is₁ is₂ is₃ below e = absurd (never e)
 
-pub parse_right : (s : List ℕ) (n f h : ℕ) → (parse_of s ≡ Numbers n f h) ↔ Right s n f h
+pub parse_right : (s : List ℕ) (n f h : ℕ) → (parse_of s ≡ numbers n f h) ↔ Right s n f h
 unfolding parse_of
 parse_right s n f h = (right, λ given. ap parse_of (given.3 ∙ line_fields n f h) ∙ read_whole n f h given.0 given.1 given.2)
   where
-    right : parse_of s ≡ Numbers n f h → Right s n f h
+    right : parse_of s ≡ numbers n f h → Right s n f h
     right e =
-        let first = past Malformed comma _ s (Numbers n f h) never e in
-        let second = past Malformed comma _ first.begins.rest (Numbers n f h) never first.on in
-        let third = past Malformed line_feed _ second.begins.rest (Numbers n f h) never second.on in
+        let first = past None comma _ s (numbers n f h) never e in
+        let second = past None comma _ first.begins.rest (numbers n f h) never first.on in
+        let third = past None line_feed _ second.begins.rest (numbers n f h) never second.on in
         all_read s first.begins.rest second.begins.rest third.begins.rest first.v second.v third.v n f h
         first.begins.is second.begins.is third.begins.is
         (first.begins.below, second.begins.below, third.begins.below)
         third.on
 
 -- .. and is refused otherwise
-pub parse_wrong : (s : List ℕ) → (parse_of s ≡ Malformed) ↔ ((n f h : ℕ) → Right s n f h → ⊥)
+pub parse_wrong : (s : List ℕ) → (parse_of s ≡ None) ↔ ((n f h : ℕ) → Right s n f h → ⊥)
 parse_wrong s = (λ bad n f h right. never (sym bad ∙ (parse_right s n f h).1 right), by (parse_of s) refl)
   where
-    by : (r : Parsed) → parse_of s ≡ r → ((n f h : ℕ) → Right s n f h → ⊥) → parse_of s ≡ Malformed
-    by (Numbers n f h) read none = absurd (none n f h ((parse_right s n f h).0 read))
-    by Malformed read none = read
+    by : (r : Option Parsed) → parse_of s ≡ r → ((n f h : ℕ) → Right s n f h → ⊥) → parse_of s ≡ None
+    by (Some r) read none = absurd (none r.leading r.first r.many ((parse_right s _ _ _).0 read))
+    by None read none = read
 
 -- A right line has at most 30 bytes, so a buffer that holds one more is long enough to tell.
 pub length-line : (n f h : ℕ) → n < 1000000000 → f < 1000000000 → h < 1000000000 → length (line n f h) ≤ 30
@@ -85,7 +87,7 @@ length-line n f h n-below f-below h-below =
       length-field h line_feed h-below,
     )
 
-pub long_wrong : (s : List ℕ) → 30 < length s → parse_of s ≡ Malformed
+pub long_wrong : (s : List ℕ) → 30 < length s → parse_of s ≡ None
 long_wrong s long =
     (parse_wrong s).1 λ n f h right.
     omega (arith, ap length right.3, length-line n f h right.0 right.1 right.2)

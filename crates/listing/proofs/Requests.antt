@@ -2,7 +2,7 @@
 use mathlib.Core.Bool.{not}
 use mathlib.Core.List.{List, []}
 use mathlib.Core.Path.{◌≡◌, refl, ap}
-use Prim.Native.Nat.{ℕ, ◌+◌, ◌<◌, ◌≤◌}
+use Prim.Native.Nat.{ℕ, ◌+◌, ◌<◌}
 use native.Mathlib.Omega.{arith}
 use borrow.Author.Tests.{ltb-false, not-false}
 use lib.Dec.{ltb}
@@ -16,50 +16,54 @@ use Rattle.circuit.specs.declared.circuits.Circuit.{Circuit}
 use Rattle.limits.proofs.limit.Decided.{allowed_range, limited-holds}
 use Rattle.limits.specs.Limit.{our_limit}
 use Rattle.refusal.proofs.Small.{tested}
-use Rattle.refusal.specs.Refusals.{refusal_values}
-use Rattle.refusal.specs.declared.outcome.Refusal.{Refusal}
+use Rattle.refusal.specs.LineRefusals.{line_refusal_values}
+use Rattle.refusal.specs.declared.line.LineRefusal.{LineRefusal}
+use Rattle.refusal.specs.declared.line.LineRefusal.TheVariants.{BadLine}
+use Rattle.std.specs.Prelude.{Err, None, Ok, Option, Some}
 use Rattle.listing.specs.AxleLine.{parse_axles_of}
 use Rattle.listing.specs.Line.{parse_of}
-use Rattle.listing.specs.Progress.{Possible}
-use Rattle.listing.specs.Request.{asked, asked_axles, checked, checked_axles, request_number, request_of, request_values, within}
+use Rattle.listing.specs.Progress.{Possible, RowsExist}
+use Rattle.listing.specs.Request.{Request, asked, asked_axles, checked, checked_axles, refused, request_number, request_of, request_values, rows, within}
 use Rattle.listing.specs.declared.axle_line.ParsedAxles.{ParsedAxles}
-use Rattle.listing.specs.declared.axle_line.ParsedAxles.TheVariants.{FourNumbers, NotFour}
 use Rattle.listing.specs.declared.line.Parsed.{Parsed}
-use Rattle.listing.specs.declared.line.Parsed.TheVariants.{Malformed, Numbers}
 use Rattle.listing.specs.declared.progress.Progress.TheVariants.{Begun}
 use Rattle.listing.specs.declared.request.Front.{Front}
 use Rattle.listing.specs.declared.request.Front.TheVariants.{Bounds, Length}
-use Rattle.listing.specs.declared.request.Request.{Request}
-use Rattle.listing.specs.declared.request.Request.TheVariants.{BadLine, Refused, Rows}
+use Rattle.listing.specs.declared.request.Rows.{Rows}
 use Rattle.listing.proofs.AxleLineRight.{long_axles_wrong}
 use Rattle.listing.proofs.LineRight.{long_wrong}
 
-pub long_bad : (t : Front) (s : List ℕ) → 40 < length s → request_of t s ≡ BadLine
+pub long_bad : (t : Front) (s : List ℕ) → 40 < length s → request_of t s ≡ Err BadLine
 unfolding request_of
 long_bad Length s long = ap asked (long_wrong s (omega arith))
 long_bad Bounds s long = ap asked_axles (long_axles_wrong s long)
 
 -- what holds of a bad line, of the refusals without values and of all rows that exist holds of what a line asks for
-module _ (P : Request → Type 0) (bad : P BadLine) (refused : (r : Refusal) → refusal_values r ≡ [] → P (Refused r))
-    (exist : (C : Circuit) (f h : ℕ) → Allowed C → f + h ≤ row_count C → P (Rows C (record { 0 = f }) h)) where
+module _ (P : Request → Type 0) (bare : (r : LineRefusal) → line_refusal_values r ≡ [] → P (Err r))
+    (exist : (q : Rows) → RowsExist q → P (Ok q)) where
+  bad : P (Err BadLine)
+  bad = bare BadLine refl
+
   each_within : (C : Circuit) (f h : ℕ) → Allowed C → P (within C f h)
   unfolding within
   each_within C f h allowed =
-      tested P (ltb (row_count C) (f + h)) (refused _ refl) (λ e. exist C f h allowed (ltb-false (row_count C) (f + h) e))
+      tested P (ltb (row_count C) (f + h)) (bare _ refl) (λ e. exist (rows C f h) (allowed, ltb-false (row_count C) (f + h) e))
 
-  each_asked : (r : Parsed) → P (asked r)
+  each_asked : (r : Option Parsed) → P (asked r)
   unfolding checked
-  each_asked Malformed = bad
-  each_asked (Numbers n f h) =
-      limited-holds P Refused (λ x. x) _ our_limit n (λ x holds. holds) (refused _ refl) (refused _ refl) (refused _ refl)
-      (λ allowed. each_within (Record n) f h (allowed_range allowed))
+  each_asked None = bad
+  each_asked (Some r) =
+      limited-holds P refused (λ x. x) _ our_limit r.leading (λ x holds. holds) (bare _ refl) (bare _ refl) (bare _ refl)
+      (λ allowed. each_within (Record r.leading) r.first r.many (allowed_range allowed))
 
-  each_asked_axles : (r : ParsedAxles) → P (asked_axles r)
+  each_asked_axles : (r : Option ParsedAxles) → P (asked_axles r)
   unfolding checked_axles
-  each_asked_axles NotFour = bad
-  each_asked_axles (FourNumbers l u f h) =
-      tested P (not (bounds_in_range l u)) (refused _ refl)
-      (λ e. each_within (Axles l u) f h ((bounds_iff l u).0 (not-false (bounds_in_range l u) e)))
+  each_asked_axles None = bad
+  each_asked_axles (Some r) =
+      tested P (not (bounds_in_range r.lower r.upper)) (bare _ refl)
+      (λ e.
+      each_within (Axles r.lower r.upper) r.first r.many
+      ((bounds_iff r.lower r.upper).0 (not-false (bounds_in_range r.lower r.upper) e)))
 
   each_request : (t : Front) (s : List ℕ) → P (request_of t s)
   unfolding request_of
@@ -67,10 +71,10 @@ module _ (P : Request → Type 0) (bad : P BadLine) (refused : (r : Refusal) →
   each_request Bounds s = each_asked_axles (parse_axles_of s)
 
 pub begin_possible : (t : Front) (s : List ℕ) → Possible (Begun (request_of t s))
-begin_possible = each_request (λ q. Possible (Begun q)) tt (λ r none. tt) (λ C f h allowed fits. (allowed, fits))
+begin_possible = each_request (λ q. Possible (Begun q)) (λ r none. tt) (λ q exist. exist)
 
 -- a refusal has no values, so that its number is all there is to print
 pub refused_values : (t : Front) (s : List ℕ) → (request_number (request_of t s) ≡ 0 → ⊥) → request_values (request_of t s) ≡ []
 refused_values =
-    each_request (λ q. (request_number q ≡ 0 → ⊥) → request_values q ≡ []) (λ h. refl) (λ r none h. none)
-    (λ C f h allowed fits some. absurd (some refl))
+    each_request (λ q. (request_number q ≡ 0 → ⊥) → request_values q ≡ []) (λ r none h. none)
+    (λ q exist some. absurd (some refl))

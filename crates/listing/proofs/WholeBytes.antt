@@ -4,14 +4,12 @@ use Prim.Native.Nat.{◌*◌}
 use Rattle.circuit.proofs.WholeBytes as circuit
 use Rattle.circuit.specs.declared.circuits.Circuit.TheVariants.{Record}
 use Rattle.limits.proofs.Limited.{ours_stand}
-use Rattle.listing.specs.Request.{checked, within}
+use Rattle.listing.specs.Request.{Request, checked, refused, within}
 use Rattle.listing.specs.WholeBytes.{WholeBytes}
-use Rattle.listing.specs.declared.request.Request.TheVariants.{Refused}
-use Rattle.listing.specs.declared.request.Request.{Request}
 use Rattle.sm3.proofs.WholeBytes.{whole_bytes}
 
 pub listing_whole_bytes : WholeBytes
 unfolding checked within
 listing_whole_bytes L f h =
-    ours_stand Request Refused (λ answer. answer) (8 * L) (within (Record (8 * L)) f h)
+    ours_stand Request refused (λ answer. answer) (8 * L) (within (Record (8 * L)) f h)
     ∙ rw (whole_bytes.range L, (circuit.whole_bytes).row_count_lem L)

@@ -2,7 +2,6 @@ pub mod AxleLine
 pub mod Held
 pub mod Line
 pub mod Listing
-pub mod Names
 pub mod Progress
 pub mod Request
 pub mod Rows

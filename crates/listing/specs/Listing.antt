@@ -1,16 +1,15 @@
 -- What `rows` and `steps`, `axle_rows` and `axle_steps` print (document 01, "What `rows` prints"; docs/STEPS.md).
-use Rattle.std.specs.Prelude.{List, [], ◌++◌, ℕ, zero, suc, ◌+◌}
+use Rattle.std.specs.Prelude.{Err, List, [], ◌++◌, Ok, ℕ, zero, suc, ◌+◌}
 use Rattle.circuit.specs.declared.circuits.Circuit.{Circuit}
+use Rattle.refusal.specs.LineRefusals.{line_refusal_number}
 use Rattle.text.specs.Refused.{refused}
 use Rattle.text.specs.Text.{ascii}
-use Rattle.listing.specs.Request.{request_number, request_of}
+use Rattle.listing.specs.Request.{Request, request_of}
 use Rattle.listing.specs.Rows.{row_lines}
 use Rattle.listing.specs.Steps.{step_line}
 use Rattle.listing.specs.declared.progress.Listing.{Listing}
 use Rattle.listing.specs.declared.progress.Listing.TheVariants as listing
 use Rattle.listing.specs.declared.request.Front.{Front}
-use Rattle.listing.specs.declared.request.Request.{Request}
-use Rattle.listing.specs.declared.request.Request.TheVariants.{BadLine, Refused, Rows}
 
 -- the first line
 abbrev pub header : Listing → List ℕ
@@ -29,9 +28,8 @@ lines_from of k (suc m) = lines_from of k m ++ of (k + m)
 
 -- all that is printed for a request: the first line and the lines of the rows, or the refusal
 abbrev pub printed : Listing → Request → List ℕ
-printed l (Rows c f h) = header l ++ lines_from (lines l c) f.0 h
-printed l BadLine = refused (request_number BadLine)
-printed l (Refused r) = refused (request_number (Refused r))
+printed l (Ok q) = header l ++ lines_from (lines l q.circuit) q.first.0 q.many
+printed l (Err r) = refused (line_refusal_number r)
 
 -- what a program prints for the bytes s of standard input, with t at the front of its line
 unfoldable pub prints : Listing → Front → List ℕ → List ℕ

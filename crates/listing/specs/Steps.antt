@@ -1,5 +1,6 @@
 -- What `steps` prints of a row (docs/STEPS.md): `row,block,step,index,bit,form`.
-use Rattle.std.specs.Prelude.{Bool, cond, false, true, List, [], ◌∷◌, ◌++◌, ℕ, ◌+◌, ◌/◌, ltb}
+use Rattle.std.specs.Prelude.{Bool, cond, false, true, List, [], ◌∷◌, ◌++◌, None, Option, Some, ℕ, ◌+◌, ◌/◌, ltb}
+use Rattle.std.specs.Bool.{then_some}
 use Rattle.block.specs.Steps.{lines}
 use Rattle.block.specs.declared.place.Place.{Place}
 use Rattle.block.specs.declared.step.Step.{Step}
@@ -11,7 +12,7 @@ use Rattle.circuit.specs.declared.circuits.Circuit.{Circuit}
 use Rattle.forms.specs.declared.form.Form.{Form}
 use Rattle.forms.specs.declared.form.Form.TheVariants.{Fixed, Bit, XorOfTwo, XorOfThree, Majority, Choice, Sum, Equal, Difference}
 use Rattle.text.specs.Decimal.{field}
-use Rattle.text.specs.Text.{ascii, comma}
+use Rattle.text.specs.Text.{ascii, comma, line_feed}
 
 -- whether a step is of a block
 abbrev pub in_block : Step → Bool
@@ -32,52 +33,68 @@ in_block Result = true
 in_block Digest = false
 in_block Appended = false
 
+-- the name of a step, and of a form
+abbrev pub step_name : Step → List ℕ
+step_name Start = ascii "start"
+step_name Message = ascii "message"
+step_name Q = ascii "q"
+step_name P1 = ascii "p1"
+step_name W = ascii "w"
+step_name WPrime = ascii "wprime"
+step_name U = ascii "u"
+step_name Ss2 = ascii "ss2"
+step_name Ff = ascii "ff"
+step_name Gg = ascii "gg"
+step_name Tt1 = ascii "tt1"
+step_name Tt2 = ascii "tt2"
+step_name P0 = ascii "p0"
+step_name Result = ascii "result"
+step_name Digest = ascii "digest"
+step_name Appended = ascii "appended"
+
+abbrev pub form_name : Form → List ℕ
+form_name (Fixed w b) = ascii "fixed"
+form_name (Bit w) = ascii "bit"
+form_name (XorOfTwo x y r) = ascii "xor of two"
+form_name (XorOfThree x y z r) = ascii "xor of three"
+form_name (Majority x y z r) = ascii "majority"
+form_name (Choice x y z r) = ascii "choice"
+form_name (Sum s k r) = ascii "sum"
+form_name (Equal x y) = ascii "equal"
+-- document 02, request 5: "a sum row of value minus bits"
+form_name (Difference d bound n r) = ascii "sum"
+
 -- the column of a step, with the comma after it, and of a form, with the line feed
 abbrev pub step_text : Step → List ℕ
-step_text Start = ascii "start,"
-step_text Message = ascii "message,"
-step_text Q = ascii "q,"
-step_text P1 = ascii "p1,"
-step_text W = ascii "w,"
-step_text WPrime = ascii "wprime,"
-step_text U = ascii "u,"
-step_text Ss2 = ascii "ss2,"
-step_text Ff = ascii "ff,"
-step_text Gg = ascii "gg,"
-step_text Tt1 = ascii "tt1,"
-step_text Tt2 = ascii "tt2,"
-step_text P0 = ascii "p0,"
-step_text Result = ascii "result,"
-step_text Digest = ascii "digest,"
-step_text Appended = ascii "appended,"
+step_text s = step_name s ++ (comma ∷ [])
 
 abbrev pub form_text : Form → List ℕ
-form_text (Fixed w b) = ascii "fixed\n"
-form_text (Bit w) = ascii "bit\n"
-form_text (XorOfTwo x y r) = ascii "xor of two\n"
-form_text (XorOfThree x y z r) = ascii "xor of three\n"
-form_text (Majority x y z r) = ascii "majority\n"
-form_text (Choice x y z r) = ascii "choice\n"
-form_text (Sum s k r) = ascii "sum\n"
-form_text (Equal x y) = ascii "equal\n"
--- document 02, request 5: "a sum row of value minus bits"
-form_text (Difference d bound n r) = ascii "sum\n"
+form_text f = form_name f ++ (line_feed ∷ [])
 
 -- a number that may be left out, and the byte after it
-unfoldable pub optional : Bool → ℕ → ℕ → List ℕ
-optional given x stop = cond given (field x stop) (stop ∷ [])
+unfoldable pub optional : Option ℕ → ℕ → List ℕ
+optional (Some x) stop = field x stop
+optional None stop = stop ∷ []
+
+-- the block of a place, if its step is of a block
+abbrev pub block_of : Place → Option ℕ
+block_of p = cond (in_block p.step) (Some p.block) None
 
 -- a word of 64 rows has two at each of its positions, any other one, so this is the position of a line. The carries of a sum
 -- stand at 32 and 33; what comes behind them is its equation, which is of all positions
 abbrev pub position : Place → ℕ
 position p = p.line / (1 + lines p.step p.index / 64)
 
+-- .. if it has one
+abbrev pub position_of : Place → Option ℕ
+position_of p = then_some (ltb (position p) 34) (position p)
+
 -- `row,block,step,` of row k at place p, and `index,bit,form` of a row of form f
 unfoldable pub where_text : ℕ → Place → List ℕ
-where_text k p = field k comma ++ optional (in_block p.step) p.block comma ++ step_text p.step
+where_text k p = field k comma ++ optional (block_of p) comma ++ step_text p.step
 
 unfoldable pub what_text : Place → Form → List ℕ
-what_text p f = field p.index comma ++ optional (ltb (position p) 34) (position p) comma ++ form_text f
+what_text p f = field p.index comma ++ optional (position_of p) comma ++ form_text f
 
 -- the line of row k of a circuit
 unfoldable pub step_line : Circuit → ℕ → List ℕ

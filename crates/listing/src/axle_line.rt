@@ -3,46 +3,28 @@
 ghost use Rattle.std.specs.Prelude.{◌≡◌};
 ghost use Rattle.listing.specs.AxleLine.{parse_axles_of};
 
-use crate::line::{Parsed, parse};
-use text::field::{Field, read_field};
+use crate::line::parse;
+use text::field::read_field;
 
-// What a line says.
-#[derive(Clone, Copy)]
-pub enum ParsedAxles {
-    // Four numbers below 1,000,000,000.
-    FourNumbers {
-        lower: u64,
-        upper: u64,
-        first: u64,
-        many: u64,
-    },
-    // It is no such line.
-    NotFour,
+// What a line says, in four numbers below 1,000,000,000.
+#[derive(Clone, Copy, Debug, PartialEq, Eq)]
+pub struct ParsedAxles {
+    pub lower: u64,
+    pub upper: u64,
+    pub first: u64,
+    pub many: u64,
 }
 
 // The four numbers of a line.
-pub fn parse_axles(s: &[u8]) -> ParsedAxles
+pub fn parse_axles(s: &[u8]) -> Option<ParsedAxles>
     ensures { result ≡ parse_axles_of s.now }
 {
-    let Field::Number {
-        value: lower,
-        bytes: a,
-    } = read_field(s, 0, b',')
-    else {
-        return ParsedAxles::NotFour;
-    };
-    let Parsed::Numbers {
-        leading,
-        first,
-        many,
-    } = parse(&s[a..])
-    else {
-        return ParsedAxles::NotFour;
-    };
-    ParsedAxles::FourNumbers {
-        lower,
-        upper: leading,
-        first,
-        many,
-    }
+    let lower = read_field(s, 0, b',')?;
+    let others = parse(&s[lower.bytes..])?;
+    Some(ParsedAxles {
+        lower: lower.value,
+        upper: others.leading,
+        first: others.first,
+        many: others.many,
+    })
 }

@@ -3,48 +3,29 @@
 ghost use Rattle.std.specs.Prelude.{◌≡◌};
 ghost use Rattle.listing.specs.Line.{parse_of};
 
-use text::field::{Field, read_field};
+use text::field::read_field;
 
-// What a line says.
-#[derive(Clone, Copy)]
-pub enum Parsed {
-    // Three numbers below 1,000,000,000.
-    Numbers { leading: u64, first: u64, many: u64 },
-    // It is no such line.
-    Malformed,
+// What a line says, in three numbers below 1,000,000,000.
+#[derive(Clone, Copy, Debug, PartialEq, Eq)]
+pub struct Parsed {
+    pub leading: u64,
+    pub first: u64,
+    pub many: u64,
 }
 
 // The three numbers of a line.
-pub fn parse(s: &[u8]) -> Parsed
+pub fn parse(s: &[u8]) -> Option<Parsed>
     ensures { result ≡ parse_of s.now }
 {
-    let Field::Number {
-        value: leading,
-        bytes: a,
-    } = read_field(s, 0, b',')
-    else {
-        return Parsed::Malformed;
-    };
-    let Field::Number {
-        value: first,
-        bytes: b,
-    } = read_field(s, a, b',')
-    else {
-        return Parsed::Malformed;
-    };
-    let Field::Number {
-        value: many,
-        bytes: c,
-    } = read_field(s, a + b, b'\n')
-    else {
-        return Parsed::Malformed;
-    };
-    if a + b + c < s.len() {
-        return Parsed::Malformed;
+    let leading = read_field(s, 0, b',')?;
+    let first = read_field(s, leading.bytes, b',')?;
+    let many = read_field(s, leading.bytes + first.bytes, b'\n')?;
+    if leading.bytes + first.bytes + many.bytes < s.len() {
+        return None;
     }
-    Parsed::Numbers {
-        leading,
-        first,
-        many,
-    }
+    Some(Parsed {
+        leading: leading.value,
+        first: first.value,
+        many: many.value,
+    })
 }

@@ -1,23 +1,25 @@
 // What a program has still to print, chunk by chunk.
-ghost use Rattle.std.specs.Prelude.{◌≡◌, ◌+◌, ◌<◌, ◌≤◌, length};
+ghost use Rattle.std.specs.Prelude.{Some, ◌≡◌, ◌+◌, ◌<◌, ◌≤◌, length};
 ghost use Rattle.circuit.specs.Places.{row_count};
 ghost use Rattle.circuit.specs.Ranges.{Allowed};
 ghost use Rattle.forms.specs.Terms.{term_room};
 ghost use Rattle.listing.specs.Listing.{header, lines};
-ghost use Rattle.listing.specs.Progress.{Handed, Possible, RowsExist, room, unfinished};
+ghost use Rattle.listing.specs.Progress.{Handed, IfPossible, Possible, RowsExist, room};
 ghost use Rattle.listing.specs.Request.{request_of};
 ghost use Rattle.text.specs.Put.{Put};
 
-use crate::request::{Front, Request, refusal_number, request_of};
+use crate::request::{Front, Rows, request_of};
 use crate::step::{STEP_ROOM, put_step_line};
 use crate::term::{ROW_ROOM, put_row};
 use circuit::circuits::Circuit;
+use refusal::line::LineRefusal;
 use refusal::numbers::RowNumber;
-use text::literal::put_through;
+use text::literal::put_text;
 use text::refused::put_refusal;
 
-// The programs' two listings.
-#[derive(Clone, Copy)]
+// The programs' two listings. A trait would say no more than these three matches: the theorems on what is printed are of
+// both listings at once (`PrintsAll`).
+#[derive(Clone, Copy, Debug, PartialEq, Eq)]
 pub enum Listing {
     // The terms of each row.
     Rows,
@@ -28,23 +30,17 @@ pub enum Listing {
 // What is still to be printed.
 #[derive(Clone, Copy)]
 pub enum Progress {
-    // All that a request asks for.
-    Begun(Request),
-    // The lines of so many rows of a circuit from `next` on.
-    Lines {
-        circuit: Circuit,
-        next: RowNumber,
-        many: u64,
-    },
-    // Nothing.
-    Done,
+    // The first line and the lines of the rows that are asked for, or the refusal.
+    Begun(Result<Rows, LineRefusal>),
+    // The lines of rows.
+    Lines(Rows),
 }
 
-// How many bytes at the front of a buffer are to be printed next, and what is to be printed after them.
+// How many bytes at the front of a buffer are to be printed next, and what is to be printed after them, if anything is.
 #[derive(Clone, Copy)]
 pub struct Chunk {
     pub bytes: usize,
-    pub next: Progress,
+    pub next: Option<Progress>,
 }
 
 // What is to be printed for the bytes of standard input.
@@ -52,21 +48,6 @@ pub fn begin(front: Front, line: &[u8]) -> Progress
     ensures { (result ≡ Progress.Begun (request_of front line.now)) × Possible result }
 {
     Progress::Begun(request_of(front, line))
-}
-
-// Whether there is something to print.
-pub fn more(progress: Progress) -> bool
-    ensures { result ≡ unfinished progress }
-{
-    match progress {
-        Progress::Begun(_) => true,
-        Progress::Lines {
-            circuit: _,
-            next: _,
-            many: _,
-        } => true,
-        Progress::Done => false,
-    }
 }
 
 // How many bytes the lines of a row take at most.
@@ -85,8 +66,8 @@ fn put_header(listing: Listing, out: &mut [u8]) -> usize
     ensures { Put out.old 0 (header listing) out.new result × (result ≤ 30) }
 {
     match listing {
-        Listing::Rows => put_through(out, 0, b"row,part,wire,coefficient\n", 0, b'\n'),
-        Listing::Steps => put_through(out, 0, b"row,block,step,index,bit,form\n", 0, b'\n'),
+        Listing::Rows => put_text(out, 0, "row,part,wire,coefficient\n"),
+        Listing::Steps => put_text(out, 0, "row,block,step,index,bit,form\n"),
     }
 }
 
@@ -109,83 +90,56 @@ fn put_lines(
 }
 
 // The first line, or the refusal.
-fn first_chunk(listing: Listing, request: Request, out: &mut [u8]) -> Chunk
+fn first_chunk(listing: Listing, request: Result<Rows, LineRefusal>, out: &mut [u8]) -> Chunk
     requires { room listing ≤ length out.old }
     ensures { Handed listing (Progress.Begun request) out.old out.new result }
 {
-    let Request::Rows {
-        circuit,
-        first,
-        many,
-    } = request
-    else {
-        return Chunk {
-            bytes: put_refusal(out, refusal_number(request)),
-            next: Progress::Done,
-        };
-    };
-    Chunk {
-        bytes: put_header(listing, out),
-        next: Progress::Lines {
-            circuit,
-            next: first,
-            many,
+    match request {
+        Ok(rows) => Chunk {
+            bytes: put_header(listing, out),
+            next: Some(Progress::Lines(rows)),
+        },
+        Err(refusal) => Chunk {
+            bytes: put_refusal(out, refusal.number()),
+            next: None,
         },
     }
 }
 
-// The lines of the rows from `next` on, all or as many as the buffer holds.
-fn fill(
-    listing: Listing,
-    circuit: Circuit,
-    next: RowNumber,
-    many: u64,
-    out: &mut [u8],
-    terms: &mut [u64],
-) -> Chunk
-    requires { (room listing ≤ length out.old) × RowsExist circuit next many × (term_room ≤ length terms.old) }
-    ensures { Handed listing (Progress.Lines circuit next many) out.old out.new result }
+// The lines of rows, all or as many as the buffer holds.
+fn fill(listing: Listing, rows: Rows, out: &mut [u8], terms: &mut [u64]) -> Chunk
+    requires { (room listing ≤ length out.old) × RowsExist rows × (term_room ≤ length terms.old) }
+    ensures { Handed listing (Progress.Lines rows) out.old out.new result }
 {
-    let least = room_of(listing);
-    let mut k = next.0;
-    let mut left = many;
+    let end = rows.first.0 + rows.many;
     let mut at = 0;
-    while 0 < left {
-        if out.len() - at < least {
+    for k in rows.first.0..end {
+        if out.len() - at < room_of(listing) {
+            let left = Rows {
+                first: RowNumber(k),
+                many: end - k,
+                ..rows
+            };
             return Chunk {
                 bytes: at,
-                next: Progress::Lines {
-                    circuit,
-                    next: RowNumber(k),
-                    many: left,
-                },
+                next: Some(Progress::Lines(left)),
             };
         }
-        at = put_lines(listing, out, at, circuit, RowNumber(k), terms);
-        k += 1;
-        left -= 1;
+        at = put_lines(listing, out, at, rows.circuit, RowNumber(k), terms);
     }
     Chunk {
         bytes: at,
-        next: Progress::Done,
+        next: None,
     }
 }
 
 // The next chunk, at the front of `out`. `terms` is room for the terms of a row.
 pub fn next_chunk(listing: Listing, progress: Progress, out: &mut [u8], terms: &mut [u64]) -> Chunk
     requires { (room listing ≤ length out.old) × Possible progress × (term_room ≤ length terms.old) }
-    ensures { Handed listing progress out.old out.new result × Possible result.next }
+    ensures { Handed listing progress out.old out.new result × IfPossible result.next }
 {
     match progress {
         Progress::Begun(request) => first_chunk(listing, request, out),
-        Progress::Lines {
-            circuit,
-            next,
-            many: left,
-        } => fill(listing, circuit, next, left, out, terms),
-        Progress::Done => Chunk {
-            bytes: 0,
-            next: Progress::Done,
-        },
+        Progress::Lines(rows) => fill(listing, rows, out, terms),
     }
 }

@@ -1,9 +1,8 @@
 // The line that says which step of the hash a row stands for.
-ghost use Rattle.std.specs.Prelude.{◌≡◌, ◌+◌, ◌<◌, ◌≤◌, length};
+ghost use Rattle.std.specs.Prelude.{[], ◌∷◌, ◌++◌, ◌≡◌, ◌+◌, ◌<◌, ◌≤◌, length};
 ghost use Rattle.circuit.specs.Places.{row_count};
 ghost use Rattle.circuit.specs.Ranges.{Allowed};
-ghost use Rattle.listing.specs.Names.{form_place, step_place};
-ghost use Rattle.listing.specs.Steps.{form_text, in_block, optional, step_line, step_room, step_text, what_text, where_text};
+ghost use Rattle.listing.specs.Steps.{block_of, form_name, optional, step_line, step_name, step_room, what_text, where_text};
 ghost use Rattle.text.specs.Put.{Put};
 
 use block::place::Place;
@@ -14,128 +13,83 @@ use circuit::step_form::form_of;
 use forms::form::Form;
 use refusal::numbers::RowNumber;
 use text::decimal::put_field;
-use text::literal::put_through;
+use text::literal::put_text;
 
 // How many bytes the line of a row takes at most.
 pub const STEP_ROOM: usize = 106;
 
-// Whether a step is of a block.
-fn in_block(step: Step) -> bool
-    ensures { result ≡ in_block step }
+// The block of a place, if its step is of a block.
+fn block_of(p: Place) -> Option<u64>
+    ensures { result ≡ block_of p }
 {
-    match step {
-        Step::Start => false,
-        Step::Message => true,
-        Step::Q => true,
-        Step::P1 => true,
-        Step::W => true,
-        Step::WPrime => true,
-        Step::U => true,
-        Step::Ss2 => true,
-        Step::Ff => true,
-        Step::Gg => true,
-        Step::Tt1 => true,
-        Step::Tt2 => true,
-        Step::P0 => true,
-        Step::Result => true,
-        Step::Digest => false,
-        Step::Appended => false,
+    match p.step {
+        Step::Start | Step::Digest | Step::Appended => None,
+        _ => Some(p.block),
     }
 }
 
-// Where the name of a step begins among the names of all.
-fn step_place(step: Step) -> usize
-    ensures { result ≡ step_place step }
+// The name of a step.
+fn step_name(step: Step) -> &'static str
+    ensures { (result.now ≡ step_name step) × (length result.now ≤ 8) }
 {
     match step {
-        Step::Start => 0,
-        Step::Message => 6,
-        Step::Q => 14,
-        Step::P1 => 16,
-        Step::W => 19,
-        Step::WPrime => 21,
-        Step::U => 28,
-        Step::Ss2 => 30,
-        Step::Ff => 34,
-        Step::Gg => 37,
-        Step::Tt1 => 40,
-        Step::Tt2 => 44,
-        Step::P0 => 48,
-        Step::Result => 51,
-        Step::Digest => 58,
-        Step::Appended => 65,
+        Step::Start => "start",
+        Step::Message => "message",
+        Step::Q => "q",
+        Step::P1 => "p1",
+        Step::W => "w",
+        Step::WPrime => "wprime",
+        Step::U => "u",
+        Step::Ss2 => "ss2",
+        Step::Ff => "ff",
+        Step::Gg => "gg",
+        Step::Tt1 => "tt1",
+        Step::Tt2 => "tt2",
+        Step::P0 => "p0",
+        Step::Result => "result",
+        Step::Digest => "digest",
+        Step::Appended => "appended",
     }
 }
 
-// Where the name of a form begins among the names of all. A difference is called a sum.
-fn form_place(form: Form) -> usize
-    ensures { result ≡ form_place form }
+// The name of a form. A difference is called a sum.
+fn form_name(form: Form) -> &'static str
+    ensures { (result.now ≡ form_name form) × (length result.now ≤ 12) }
 {
     match form {
-        Form::Fixed { w: _, bit: _ } => 0,
-        Form::Bit { w: _ } => 6,
-        Form::XorOfTwo { x: _, y: _, r: _ } => 10,
-        Form::XorOfThree {
-            x: _,
-            y: _,
-            z: _,
-            r: _,
-        } => 21,
-        Form::Majority {
-            x: _,
-            y: _,
-            z: _,
-            r: _,
-        } => 34,
-        Form::Choice {
-            x: _,
-            y: _,
-            z: _,
-            r: _,
-        } => 43,
-        Form::Sum {
-            addends: _,
-            constant: _,
-            r: _,
-        } => 50,
-        Form::Equal { x: _, y: _ } => 54,
-        Form::Difference {
-            digits: _,
-            bound: _,
-            width: _,
-            r: _,
-        } => 50,
+        Form::Fixed { .. } => "fixed",
+        Form::Bit { .. } => "bit",
+        Form::XorOfTwo { .. } => "xor of two",
+        Form::XorOfThree { .. } => "xor of three",
+        Form::Majority { .. } => "majority",
+        Form::Choice { .. } => "choice",
+        Form::Sum { .. } | Form::Difference { .. } => "sum",
+        Form::Equal { .. } => "equal",
     }
 }
 
-// The name of a step and a comma.
-fn put_step(out: &mut [u8], at: usize, step: Step) -> usize
-    requires { at + 9 ≤ length out.old }
-    ensures { Put out.old at (step_text step) out.new result × (result ≤ at + 9) }
+// A name, and the byte after it.
+fn put_name(out: &mut [u8], at: usize, name: &str, stop: u8) -> usize
+    requires { at + length name.now + 1 ≤ length out.old }
+    ensures { Put out.old at (name.now ++ (stop ∷ [])) out.new result × (result ≡ at + length name.now + 1) }
 {
-    let names = b"start,message,q,p1,w,wprime,u,ss2,ff,gg,tt1,tt2,p0,result,digest,appended,";
-    put_through(out, at, names, step_place(step), b',')
-}
-
-// The name of a form and a line feed.
-fn put_form(out: &mut [u8], at: usize, form: Form) -> usize
-    requires { at + 13 ≤ length out.old }
-    ensures { Put out.old at (form_text form) out.new result × (result ≤ at + 13) }
-{
-    let names = b"fixed\nbit\nxor of two\nxor of three\nmajority\nchoice\nsum\nequal\n";
-    put_through(out, at, names, form_place(form), b'\n')
+    let end = put_text(out, at, name);
+    out[end] = stop;
+    end + 1
 }
 
 // A number that may be left out, and the byte after it.
-fn put_optional(out: &mut [u8], at: usize, given: bool, x: u64, stop: u8) -> usize
+fn put_optional(out: &mut [u8], at: usize, x: Option<u64>, stop: u8) -> usize
     requires { at + 21 ≤ length out.old }
-    ensures { Put out.old at (optional given x stop) out.new result × (result ≤ at + 21) }
+    ensures { Put out.old at (optional x stop) out.new result × (result ≤ at + 21) }
 {
-    if given {
-        return put_field(out, at, x, stop);
+    match x {
+        Some(x) => put_field(out, at, x, stop),
+        None => {
+            out[at] = stop;
+            at + 1
+        }
     }
-    out[at] = stop;
-    at + 1
 }
 
 // `row,block,step,` of a row at the place p.
@@ -143,10 +97,9 @@ fn put_where(out: &mut [u8], at: usize, row: RowNumber, p: Place) -> usize
     requires { at + 51 ≤ length out.old }
     ensures { Put out.old at (where_text row.0 p) out.new result × (result ≤ at + 51) }
 {
-    let step = p.step;
     let a = put_field(out, at, row.0, b',');
-    let b = put_optional(out, a, in_block(step), p.block, b',');
-    put_step(out, b, step)
+    let b = put_optional(out, a, block_of(p), b',');
+    put_name(out, b, step_name(p.step), b',')
 }
 
 // `index,bit,form` of a row at the place p of a form.
@@ -154,11 +107,10 @@ fn put_what(out: &mut [u8], at: usize, p: Place, form: Form) -> usize
     requires { at + 55 ≤ length out.old }
     ensures { Put out.old at (what_text p form) out.new result × (result ≤ at + 55) }
 {
-    let step = p.step;
-    let position = p.line / (1 + lines_of(step, p.index) / 64);
+    let position = p.line / (1 + lines_of(p.step, p.index) / 64);
     let a = put_field(out, at, p.index, b',');
-    let b = put_optional(out, a, position < 34, position, b',');
-    put_form(out, b, form)
+    let b = put_optional(out, a, (position < 34).then_some(position), b',');
+    put_name(out, b, form_name(form), b'\n')
 }
 
 // The line of a row of a circuit.

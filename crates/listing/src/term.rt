@@ -42,11 +42,10 @@ pub fn put_term_line(out: &mut [u8], at: usize, row: RowNumber, part: u8, term: 
     requires { (at + line_room ≤ length out.old) × (term.residue < p) }
     ensures { Put out.old at (term_line row.0 part term.wire.0 (signed term.residue)) out.new result × (result ≤ at + line_room) }
 {
-    let wire = term.wire;
     let a = put_field(out, at, row.0, b',');
     out[a] = part;
     out[a + 1] = b',';
-    let b = put_field(out, a + 2, wire.0, b',');
+    let b = put_field(out, a + 2, term.wire.0, b',');
     put_coefficient(out, b, term.residue)
 }
 

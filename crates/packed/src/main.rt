@@ -4,5 +4,6 @@
 use claim::program::run;
 
 fn main(rt: HostRuntime) {
-    run(&rt);
+    // What fails has been said on standard error.
+    let _ = run(&rt);
 }

@@ -5,86 +5,87 @@ use Prim.Native.Nat.{ℕ, ◌+◌, ◌≤◌, ◌<◌}
 use native.Mathlib.Omega.{arith}
 use lib.ListN.{length, drop, length-drop, drop_of_length-le}
 use lib.Seq.{drop-cons, drop-drop}
+use Rattle.std.specs.Prelude.{None, Some}
 use Rattle.text.proofs.AfterField.{field-within}
 use Rattle.text.specs.Field.{field_of}
 use Rattle.text.specs.Text.{comma, line_feed}
-use Rattle.text.specs.declared.field.Field.TheVariants.{Number, Wrong}
-use Rattle.listing.specs.Line.{ended, parse_of}
-use Rattle.listing.specs.declared.line.Parsed.TheVariants.{Numbers, Malformed}
+use Rattle.text.specs.declared.field.Field.{Field}
+use Rattle.listing.specs.Line.{ended, numbers, parse_of}
 use Rattle.listing.proofs.line.parse.Goals as goal
 
 -- the answer, by how far the line can be read
 module _ (s : List ℕ) where
-  no_leading : field_of comma s ≡ Wrong → parse_of s ≡ Malformed
+  no_leading : None ≡ field_of comma s → None ≡ parse_of s
   unfolding parse_of
-  no_leading e = simp e
+  no_leading e = sym (simp (sym e))
 
-  module _ (n a : ℕ) (first : field_of comma s ≡ Number n a) where
-    no_first : field_of comma (drop a s) ≡ Wrong → parse_of s ≡ Malformed
+  module _ (n : Field) (first : Some n ≡ field_of comma s) where
+    no_first : None ≡ field_of comma (drop n.bytes s) → None ≡ parse_of s
     unfolding parse_of
-    no_first e = simp (first, e)
+    no_first e = sym (simp (sym first, sym e))
 
-    module _ (f b : ℕ) (second : field_of comma (drop a s) ≡ Number f b) where
-      within-two : a + b ≤ length s
-      within-two = omega (arith, field-within comma s n a first, field-within comma (drop a s) f b second, length-drop a s)
+    module _ (f : Field) (second : Some f ≡ field_of comma (drop n.bytes s)) where
+      within-two : n.bytes + f.bytes ≤ length s
+      within-two =
+          omega (
+            arith,
+            field-within comma s n.value n.bytes (sym first),
+            field-within comma (drop n.bytes s) f.value f.bytes (sym second),
+            length-drop n.bytes s,
+          )
 
-      no_many : field_of line_feed (drop (a + b) s) ≡ Wrong → parse_of s ≡ Malformed
+      no_many : None ≡ field_of line_feed (drop (n.bytes + f.bytes) s) → None ≡ parse_of s
       unfolding parse_of
-      no_many e = simp (first, second, drop-drop, e)
+      no_many e = sym (simp (sym first, sym second, drop-drop, sym e))
 
-      module _ (h c : ℕ) (third : field_of line_feed (drop (a + b) s) ≡ Number h c) where
-        within_three : a + b + c ≤ length s
-        within_three = omega (arith, within-two, field-within line_feed (drop (a + b) s) h c third, length-drop (a + b) s)
+      module _ (h : Field) (third : Some h ≡ field_of line_feed (drop (n.bytes + f.bytes) s)) where
+        within_three : n.bytes + f.bytes + h.bytes ≤ length s
+        within_three =
+            omega (
+              arith,
+              within-two,
+              field-within line_feed (drop (n.bytes + f.bytes) s) h.value h.bytes (sym third),
+              length-drop (n.bytes + f.bytes) s,
+            )
 
-        three_read : parse_of s ≡ ended (drop (a + b + c) s) (Numbers n f h)
+        three_read : ended (drop (n.bytes + f.bytes + h.bytes) s) (numbers n.value f.value h.value) ≡ parse_of s
         unfolding parse_of
-        three_read = simp (first, second, drop-drop, third)
+        three_read = sym (simp (sym first, sym second, drop-drop, sym third))
 
-        more-after : a + b + c < length s → parse_of s ≡ Malformed
+        more-after : n.bytes + f.bytes + h.bytes < length s → None ≡ parse_of s
         more-after more =
-            three_read ∙ ap (λ (t : List ℕ). ended t (Numbers n f h)) (drop-cons s (a + b + c) 0 more)
+            sym (ap (λ (t : List ℕ). ended t (numbers n.value f.value h.value)) (drop-cons s _ 0 more)) ∙ three_read
 
-        none_after : length s ≤ a + b + c → parse_of s ≡ Numbers n f h
+        none_after : length s ≤ n.bytes + f.bytes + h.bytes → numbers n.value f.value h.value ≡ parse_of s
         none_after end =
-            three_read ∙ ap (λ (t : List ℕ). ended t (Numbers n f h)) (drop_of_length-le s end)
+            sym (ap (λ (t : List ℕ). ended t (numbers n.value f.value h.value)) (drop_of_length-le s end)) ∙ three_read
 
-pub returns-in_default : goal.returns-in_default
-returns-in_default c = sym (no_leading c.args.s.now (sym c.in_default.ensures))
+pub returns-in_err-leading : goal.returns-in_err-leading
+returns-in_err-leading c = c.from_residual.ensures ∙ no_leading c.args.s.now c.in_err-leading.ensures
 
-pub returns-in_default-read_field : goal.returns-in_default-read_field
-returns-in_default-read_field c =
-    sym (no_first c.args.s.now _ _ (sym c.in-Number.ensures) (sym c.in_default-read_field.ensures))
+pub returns-in_err-first : goal.returns-in_err-first
+returns-in_err-first c =
+    c.from_residual-in_err-first.ensures ∙ no_first c.args.s.now _ c.in_ok-leading.ensures c.in_err-first.ensures
 
-pub overflow_add-a : goal.overflow_add-a
-overflow_add-a c =
-    omega (arith, within-two c.args.s.now _ _ (sym c.in-Number.ensures) _ _ (sym c.in-Number-read_field.ensures))
+pub overflow_add-leading : goal.overflow_add-leading
+overflow_add-leading c = omega (arith, within-two c.args.s.now _ c.in_ok-leading.ensures _ c.in_ok-first.ensures)
 
-pub returns-in_default-read_field-2 : goal.returns-in_default-read_field-2
-returns-in_default-read_field-2 c =
-    sym
-    (no_many c.args.s.now _ _ (sym c.in-Number.ensures) _ _ (sym c.in-Number-read_field.ensures)
-    (sym c.in_default-read_field-2.ensures))
+pub returns-in_err-many : goal.returns-in_err-many
+returns-in_err-many c =
+    c.from_residual-in_err-many.ensures
+    ∙ no_many c.args.s.now _ c.in_ok-leading.ensures _ c.in_ok-first.ensures c.in_err-many.ensures
 
-pub overflow_add-a-2 : goal.overflow_add-a-2
-overflow_add-a-2 c =
-    omega (arith, within-two c.args.s.now _ _ (sym c.in-Number.ensures) _ _ (sym c.in-Number-read_field.ensures))
+pub overflow_add-leading-2 : goal.overflow_add-leading-2
+overflow_add-leading-2 c = omega (arith, within-two c.args.s.now _ c.in_ok-leading.ensures _ c.in_ok-first.ensures)
 
-pub overflow_add-a-3 : goal.overflow_add-a-3
-overflow_add-a-3 c =
-    let second = sym c.in-Number-read_field.ensures in
-    let third = sym c.in-Number-read_field-2.ensures in
-    omega (arith, within_three c.args.s.now _ _ (sym c.in-Number.ensures) _ _ second _ _ third)
+pub overflow_add-leading-3 : goal.overflow_add-leading-3
+overflow_add-leading-3 c =
+    omega (arith, within_three c.args.s.now _ c.in_ok-leading.ensures _ c.in_ok-first.ensures _ c.in_ok-many.ensures)
 
-pub returns-then-a-b : goal.returns-then-a-b
-returns-then-a-b c =
-    sym
-    (more-after _ _ _ (sym c.in-Number.ensures) _ _ (sym c.in-Number-read_field.ensures) _ _
-    (sym c.in-Number-read_field-2.ensures)
-    c.if-a-b.true)
+pub returns-then-leading-first : goal.returns-then-leading-first
+returns-then-leading-first c =
+    more-after c.args.s.now _ c.in_ok-leading.ensures _ c.in_ok-first.ensures _ c.in_ok-many.ensures c.if-leading-first.true
 
 pub returns : goal.returns
 returns c =
-    sym
-    (none_after _ _ _ (sym c.in-Number.ensures) _ _ (sym c.in-Number-read_field.ensures) _ _
-    (sym c.in-Number-read_field-2.ensures)
-    c.if-a-b.false)
+    none_after c.args.s.now _ c.in_ok-leading.ensures _ c.in_ok-first.ensures _ c.in_ok-many.ensures c.if-leading-first.false

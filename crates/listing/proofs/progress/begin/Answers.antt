@@ -1,8 +1,8 @@
 -- Rows that are asked for exist.
 use mathlib.Core.Path.{ap, subst, sym}
 use Rattle.listing.specs.Progress.{Possible}
+use Rattle.listing.specs.Request.{Request}
 use Rattle.listing.specs.declared.progress.Progress.TheVariants.{Begun}
-use Rattle.listing.specs.declared.request.Request.{Request}
 use Rattle.listing.proofs.Requests.{begin_possible}
 use Rattle.listing.proofs.progress.begin.Goals as goal
 

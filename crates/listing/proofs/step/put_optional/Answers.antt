@@ -4,13 +4,10 @@ use Rattle.text.proofs.Put.{put_byte}
 use Rattle.listing.specs.Steps.{optional}
 use Rattle.listing.proofs.step.put_optional.Goals as goal
 
-pub returns-then-given : goal.returns-then-given
+pub returns-in-Some : goal.returns-in-Some
 unfolding optional
-returns-then-given c =
-    rw c.if-given.true c.put_field.ensures
+returns-in-Some c = rw c.in-Some.is c.put_field.ensures
 
-pub returns : goal.returns
+pub returns-in-None : goal.returns-in-None
 unfolding optional
-returns c =
-    let args = c.args in
-    (rw c.if-given.false (put_byte args.out.now args.at args.stop), omega arith)
+returns-in-None c = (rw c.in-None.is (put_byte c.args.out.now c.args.at c.args.stop), omega arith)
