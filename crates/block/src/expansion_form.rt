@@ -1,4 +1,5 @@
-// The rows of the expansion: q, P1(q), Wj and W'j.
+// The rows of the expansion: q, P1(q), Wj and W'j. Each form names words of its own; how a row joins them is said once, in
+// `forms::word_form`.
 ghost use Rattle.std.specs.Prelude.{◌≡◌, ◌<◌, ◌≤◌};
 ghost use Rattle.block.specs.StepForms.{p1_form, q_form, w_form, w_prime_form};
 ghost use Rattle.forms.specs.Terms.{Fit};

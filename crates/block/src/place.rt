@@ -1,6 +1,7 @@
 // Where a row of a block stands: the step of the hash that it belongs to, and which row of that step it is.
 ghost use Rattle.std.specs.Prelude.{◌≡◌, ◌+◌, ◌<◌, ◌≤◌};
 ghost use Rattle.block.specs.Steps.{block_layout, expansion_layout, one_after_other, place, round_layout, rounds_layout, rounds_rows, rows_before_round};
+ghost use Rattle.encoding.specs.Sequence.{grid};
 
 use crate::step::{Step, lines_of};
 
@@ -63,6 +64,14 @@ pub fn step_place(step: Step, block: u64, index: u64, line: u64) -> Place
     }
 }
 
+// Row k of a step whose words have a row for each of their 32 bits.
+#[tactic(auto, unfolding(encoding::specs::Sequence::grid))]
+pub fn bit_place(step: Step, block: u64, k: u64) -> Place
+    ensures { result ≡ grid 32 (place step block) k }
+{
+    step_place(step, block, k / 32, k % 32)
+}
+
 // Row k of word j in block i, where the steps have their words one after the other, and the last step has all rows behind them.
 #[tactic(auto, using(crate::proofs::place::OneAfterOther::first_step, crate::proofs::place::OneAfterOther::later_steps, crate::proofs::place::OneAfterOther::last_step))]
 fn place_among(steps: &[Step], last: Step, i: u64, j: u64, k: u64) -> Place
@@ -115,7 +124,7 @@ pub fn block_place(i: u64, k: u64) -> Place
     ensures { result ≡ block_layout (λ s. place s i) k }
 {
     if k < MESSAGE_ROWS {
-        return step_place(Step::Message, i, k / 32, k % 32);
+        return bit_place(Step::Message, i, k);
     }
     let k = k - MESSAGE_ROWS;
     if k < EXPANSION_ROWS {
@@ -123,12 +132,11 @@ pub fn block_place(i: u64, k: u64) -> Place
     }
     let k = k - EXPANSION_ROWS;
     if k < W_PRIME_ROWS {
-        return step_place(Step::WPrime, i, k / 32, k % 32);
+        return bit_place(Step::WPrime, i, k);
     }
     let k = k - W_PRIME_ROWS;
     if k < ROUNDS_ROWS {
         return rounds_place(i, k);
     }
-    let k = k - ROUNDS_ROWS;
-    step_place(Step::Result, i, k / 32, k % 32)
+    bit_place(Step::Result, i, k - ROUNDS_ROWS)
 }

@@ -1,4 +1,4 @@
-// The rows of a block's result.
+// The rows of a block's result, which are joined as those of W'j and SS2 are, by `xor_of_two`.
 ghost use Rattle.std.specs.Prelude.{◌≡◌, ◌<◌};
 ghost use Rattle.block.specs.StepForms.{result_form};
 ghost use Rattle.block.specs.Wires.{eight_from};

@@ -1,4 +1,4 @@
-// The rows of round j.
+// The rows of round j. Each form names words of its own; how a row joins them is said once, in `forms::word_form`.
 ghost use Rattle.std.specs.Prelude.{◌≡◌, ◌^◌, ◌<◌};
 ghost use Rattle.block.specs.Bounds.{stands_before};
 ghost use Rattle.block.specs.StepForms.{ff_form, gg_form, p0_form, ss2_form, tt1_form, tt2_form, u_form};
@@ -49,10 +49,10 @@ impl Block {
     {
         let r = self.round_first(j);
         let t = rotated_constant(j as usize);
-        let addends = || {
-            let x = rotated(12, self.word_before(0, j));
-            let y = self.word_before(4, j);
-            Addends { x, y, more: None }
+        let addends = || Addends {
+            x: rotated(12, self.word_before(0, j)),
+            y: self.word_before(4, j),
+            more: None,
         };
         sum_form(addends, t as u64, r, l)
     }
@@ -79,10 +79,12 @@ impl Block {
         let y = self.word_before(1, j);
         let z = self.word_before(2, j);
         let r = self.round_word(j, wire::FF);
-        if j < 16 {
-            return pair(OfThree::Xor, x, y, z, r, l);
-        }
-        pair(OfThree::Majority, x, y, z, r, l)
+        let of = if j < 16 {
+            OfThree::Xor
+        } else {
+            OfThree::Majority
+        };
+        pair(of, x, y, z, r, l)
     }
 
     // GG of E, F and G

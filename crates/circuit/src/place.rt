@@ -4,7 +4,7 @@ ghost use Rattle.circuit.specs.Places.{place_at, row_count};
 ghost use Rattle.circuit.specs.Ranges.{Allowed, most_blocks, most_rows};
 
 use crate::circuits::{Circuit, appended_rows, block_count};
-use block::place::{BLOCK_ROWS, Place, block_place, step_place};
+use block::place::{BLOCK_ROWS, Place, bit_place, block_place, step_place};
 use block::step::Step;
 use refusal::numbers::RowNumber;
 
@@ -28,7 +28,7 @@ pub fn place_of(blocks: u64, row: RowNumber) -> Place
 {
     let k = row.0;
     if k < STATE_ROWS {
-        return step_place(Step::Start, 0, k / 32, k % 32);
+        return bit_place(Step::Start, 0, k);
     }
     let k = k - STATE_ROWS;
     let all = BLOCK_ROWS * blocks;
@@ -37,7 +37,7 @@ pub fn place_of(blocks: u64, row: RowNumber) -> Place
     }
     let k = k - all;
     if k < STATE_ROWS {
-        return step_place(Step::Digest, 0, k / 32, k % 32);
+        return bit_place(Step::Digest, 0, k);
     }
     step_place(Step::Appended, 0, k - STATE_ROWS, 0)
 }
