@@ -23,7 +23,7 @@ fn parted(whole: u64, word: u32) -> Sum
     }
 }
 
-// The sum of three words.
+// The sum of three words. It and the next are two, as are the hash's sums from which they take their words.
 pub fn add_3(x: u32, y: u32, z: u32) -> Sum
     ensures { IsSum result (x + y + z) }
 {

@@ -2,11 +2,11 @@
 ghost use Rattle.std.specs.Prelude.{◌≡◌, ℕ, ◌<◌, ◌≤◌, slice_index};
 ghost use Rattle.assignment.specs.Values.{IsExpansion, IsRound};
 ghost use Rattle.encoding.specs.Sequence.{tab};
-ghost use Rattle.sm3.specs.Sm3.{FF, GG, w_prime, rotated_constant, round_of};
+ghost use Rattle.sm3.specs.Sm3.{w_prime, rotated_constant, round_of};
 
 use crate::sum::{Sum, add_3, add_4};
 use sm3::state::State;
-use sm3::words::{choice_of, majority_of, p0, p1, rotate_left};
+use sm3::words::{ff, gg, p0, p1, rotate_left};
 
 // What the expansion computes for one word, in the order of its wires: q, P1(q) and Wj.
 #[derive(Clone, Copy)]
@@ -42,26 +42,6 @@ pub fn expansion_values(x: &[u32; 68], j: usize) -> ExpansionValues
     }
 }
 
-// FF of round j.
-fn ff_of(j: usize, x: u32, y: u32, z: u32) -> u32
-    ensures { result ≡ FF j x y z }
-{
-    if j < 16 {
-        return x ^ y ^ z;
-    }
-    majority_of(x, y, z)
-}
-
-// GG of round j.
-fn gg_of(j: usize, x: u32, y: u32, z: u32) -> u32
-    ensures { result ≡ GG j x y z }
-{
-    if j < 16 {
-        return x ^ y ^ z;
-    }
-    choice_of(x, y, z)
-}
-
 // Round j on s with T rotated, Wj and W'j.
 fn values_of(s: State, j: usize, t: u32, word: u32, primed: u32) -> RoundValues
     requires { t ≡ rotated_constant j }
@@ -71,8 +51,8 @@ fn values_of(s: State, j: usize, t: u32, word: u32, primed: u32) -> RoundValues
     let u = add_3(a12, s.e, t);
     let ss1 = rotate_left(u.word, 7);
     let ss2 = ss1 ^ a12;
-    let ff = ff_of(j, s.a, s.b, s.c);
-    let gg = gg_of(j, s.e, s.f, s.g);
+    let ff = ff(j, s.a, s.b, s.c);
+    let gg = gg(j, s.e, s.f, s.g);
     let tt1 = add_4(ff, s.d, ss2, primed);
     let tt2 = add_4(gg, s.h, ss1, word);
     RoundValues {

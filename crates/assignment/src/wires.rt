@@ -40,13 +40,13 @@ pub fn put_word(out: &mut [u8], w: WireNumber, x: u32)
     }
 }
 
-// The first n words on 32 wires each, from w on.
-pub fn put_words(out: &mut [u8], w: WireNumber, words: &[u32], n: usize)
-    requires { (n ≤ length words.now) × (8 * (w.0 + 32 * n) ≤ length out.old) }
-    ensures { Wrote w.0 (32 * n) (grid 32 (λ (j : ℕ). word_wires (slice_index words.now j))) out.old out.new }
+// Words on 32 wires each, from w on.
+pub fn put_words(out: &mut [u8], w: WireNumber, words: &[u32])
+    requires { 8 * (w.0 + 32 * length words.now) ≤ length out.old }
+    ensures { Wrote w.0 (32 * length words.now) (grid 32 (λ (j : ℕ). word_wires (slice_index words.now j))) out.old out.new }
 {
-    for j in 0..n {
-        put_word(out, WireNumber(w.0 + 32 * j as u64), words[j]);
+    for (j, &x) in words.iter().enumerate() {
+        put_word(out, WireNumber(w.0 + 32 * j as u64), x);
     }
 }
 
@@ -61,10 +61,11 @@ pub fn put_sum(out: &mut [u8], w: WireNumber, sum: Sum)
 }
 
 // The words A to H on the 256 wires from w on.
+#[tactic(auto, unfolding(block::specs::BlockWires::state_wires, sm3::specs::Sm3::word_of))]
 pub fn put_state(out: &mut [u8], w: WireNumber, s: State)
     requires { 8 * (w.0 + 256) ≤ length out.old }
     ensures { Wrote w.0 256 (state_wires s) out.old out.new }
 {
-    let words = [s.a, s.b, s.c, s.d, s.e, s.f, s.g, s.h];
-    put_words(out, w, &words, 8);
+    let words: [u32; 8] = s.into();
+    put_words(out, w, &words);
 }

@@ -37,4 +37,4 @@ pub returns : goal.returns
 returns c =
     let a = c.args in
     round_is a.s a.j a.word a.primed _ _ _ c.requires c.rotate_left-a12.ensures c.add_3-u.ensures
-    c.rotate_left-ss1.ensures c.ff_of-ff.ensures c.gg_of-gg.ensures c.add_4-tt1.ensures c.add_4-tt2.ensures c.p0.ensures
+    c.rotate_left-ss1.ensures c.ff-ff.ensures c.gg-gg.ensures c.add_4-tt1.ensures c.add_4-tt2.ensures c.p0.ensures

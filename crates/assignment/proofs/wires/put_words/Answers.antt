@@ -1,5 +1,5 @@
 -- Before turn j the wires of the first j words are written; a turn writes the next row of the grid.
-use Rattle.std.proofs.Common.{◌≡◌, get_or, refl, arith}
+use Rattle.std.proofs.Common.{◌≡◌, get_or, length, refl, arith}
 use Rattle.assignment.proofs.Writes.{length-wrote, wrote_none, wrote-row}
 use Rattle.forms.specs.WordWires.{word_wires}
 use Rattle.assignment.proofs.wires.put_words.Goals as goal
@@ -20,5 +20,5 @@ shape_of-out c = length-wrote c.loop-j.invariant.1
 
 pub returns : goal.returns
 returns c =
-    let all : c.loop-j.j ≡ c.args.n = omega arith in
+    let all : c.loop-j.j ≡ length c.args.words.now = omega arith in
     rw all at c.loop-j.invariant.1
