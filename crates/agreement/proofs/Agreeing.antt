@@ -1,15 +1,16 @@
 -- Entries held against values, one run after the other, and words read off entries. A fact about each place of two sequences one
 -- after the other, or of a grid, is a fact about each place of its parts; and a word's wires are the bits that write it.
-use Rattle.std.proofs.Common.{◌≡◌, ℕ, zero, suc, ◌+◌, ◌*◌, ◌/◌, ◌%◌, ◌^◌, ◌<◌, ◌≤◌, List, [], ◌∷◌, ◌++◌, length, take, sym, refl, ap, ◌∙◌, subst, ap₂, add_assoc, arith, take-suc, below_none, below_more}
+use Rattle.std.proofs.Common.{◌≡◌, ℕ, zero, suc, ◌+◌, ◌*◌, ◌/◌, ◌%◌, ◌^◌, ◌<◌, ◌≤◌, List, [], ◌∷◌, ◌++◌, length, get_or, take, sym, refl, ap, ◌∙◌, subst, ap₂, add_assoc, arith, take-suc, below_none, below_more}
 use Rattle.assignment.specs.Assignment.{entry}
 use Rattle.encoding.proofs.Bits.{number_cong, number_lt}
 use Rattle.encoding.proofs.Sequence.{each_beside, each_grid}
-use Rattle.encoding.specs.Sequence.{beside, grid}
+use Rattle.encoding.proofs.Tab.{get_or-tab}
+use Rattle.encoding.specs.Sequence.{beside, grid, tab}
 use Rattle.forms.specs.WordWires.{word_wires}
-use Rattle.agreement.specs.Agrees.{Agrees, BitsOf, BitsOfWords}
+use Rattle.agreement.specs.Agrees.{Agrees, BitsOf, BitsOfState, BitsOfWords}
 use Rattle.sm3.proofs.WordBits.{bit-number}
 use Rattle.sm3.proofs.expansion.FirstWords.{W, W-block}
-use Rattle.sm3.specs.Sm3.{block_word, expansion, extended}
+use Rattle.sm3.specs.Sm3.{block_word, expansion, extended, state_of, word_of}
 use Rattle.sm3.specs.Words.{bit}
 
 -- Runs.
@@ -75,6 +76,15 @@ pub are_bits : {w n : ℕ} {words bytes : List ℕ} → BitsOfWords w n words by
 are_bits {w} {n} {words} {bytes} h k l =
     let place : w + 32 * (k / 32) + k % 32 ≡ w + k = omega arith in
     subst (λ u. entry bytes u < 2) place ((h.each (k / 32) (omega arith)).bits (k % 32) (omega arith))
+
+-- eight words are A to H, by their number
+pub state_read : (w : ℕ) (words bytes : List ℕ) → BitsOfWords w 8 words bytes → BitsOfState w (state_of words) bytes
+unfolding tab word_of
+state_read w words bytes h =
+    record {
+      each =
+          λ k l. subst (λ y. BitsOf (w + 32 * k) 32 y bytes) (sym (get_or-tab 8 (λ k. get_or words k 0) k 0 l)) (h.each k l);
+    }
 
 -- the first words of a block are those that its bits write
 pub first-words : {w : ℕ} {words bytes : List ℕ} (n : ℕ) → n ≤ 16 → n ≤ length words → BitsOfWords w n words bytes

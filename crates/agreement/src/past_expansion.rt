@@ -11,7 +11,7 @@ use crate::wires::state_agrees;
 use block::place::{W_PRIME_ROWS, rows_before_round};
 use block::wire::{RESULT, ROUNDS, W_PRIMES};
 use refusal::numbers::WireNumber;
-use sm3::state::{State, xor_states};
+use sm3::state::State;
 
 // The rows of the result.
 const RESULT_ROWS: u64 = 8 * 32;
@@ -37,7 +37,7 @@ pub fn rows_past_expansion(
     if rounds.count < 64 {
         return before_round;
     }
-    let result = xor_states(rounds.state, v);
+    let result = rounds.state ^ v;
     if !state_agrees(assignment, WireNumber(first.0 + RESULT), result) {
         return before_round;
     }

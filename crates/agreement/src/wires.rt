@@ -42,9 +42,9 @@ pub fn state_agrees(assignment: &[u8], w: WireNumber, s: State) -> bool
     requires { 8 * (w.0 + 256) ≤ length assignment.now }
     ensures { result ≡ true → Agrees w.0 256 (state_wires s) assignment.now }
 {
-    let words = [s.a, s.b, s.c, s.d, s.e, s.f, s.g, s.h];
-    for k in 0..8 {
-        if !word_agrees(assignment, WireNumber(w.0 + 32 * k as u64), words[k]) {
+    let words: [u32; 8] = s.into();
+    for (k, &word) in words.iter().enumerate() {
+        if !word_agrees(assignment, WireNumber(w.0 + 32 * k as u64), word) {
             return false;
         }
     }

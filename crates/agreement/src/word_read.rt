@@ -1,5 +1,5 @@
 // Words read off the wires of an assignment, where those are bits.
-ghost use Rattle.std.specs.Prelude.{◌≡◌, ◌+◌, ◌*◌, ◌<◌, ◌≤◌, true, length, Some};
+ghost use Rattle.std.specs.Prelude.{◌≡◌, ℕ, ◌+◌, ◌*◌, ◌<◌, ◌≤◌, List, length, Some};
 ghost use Rattle.agreement.specs.Agrees.{Bits, BitsOf, BitsOfState, BitsOfWords};
 ghost use Rattle.sm3.specs.declared.state.State.{State};
 
@@ -44,38 +44,28 @@ pub fn read_standing(assignment: &[u8], w: WireNumber) -> Standing
     Standing { number, seen }
 }
 
-// The n words on 32 wires each from w on, into the front of `words`, and whether all those wires are bits.
-pub fn read_words(assignment: &[u8], w: WireNumber, words: &mut [u32], n: usize) -> bool
-    requires { (n ≤ length words.old) × (8 * (w.0 + 32 * n) ≤ length assignment.now) }
-    ensures { result ≡ true → BitsOfWords w.0 n words.new assignment.now }
+// The N words on 32 wires each from w on, if all those wires are bits.
+pub fn read_words<const N: usize>(assignment: &[u8], w: WireNumber) -> Option<[u32; N]>
+    requires { 8 * (w.0 + 32 * N) ≤ length assignment.now }
+    ensures { (words : List ℕ) → result ≡ Some words → BitsOfWords w.0 N words assignment.now }
 {
-    for j in 0..n {
+    let mut words = [0u32; N];
+    for (j, word) in words.iter_mut().enumerate() {
         let s = read_standing(assignment, WireNumber(w.0 + 32 * j as u64));
         if 1 < s.seen {
-            return false;
+            return None;
         }
-        words[j] = s.number as u32;
+        *word = s.number as u32;
     }
-    true
+    Some(words)
 }
 
 // The words A to H on the 256 wires from w on, if all of them are bits.
+#[tactic(auto, using(crate::proofs::Agreeing::state_read))]
 pub fn read_state(assignment: &[u8], w: WireNumber) -> Option<State>
     requires { 8 * (w.0 + 256) ≤ length assignment.now }
     ensures { (s : State) → result ≡ Some s → BitsOfState w.0 s assignment.now }
 {
-    let mut x = [0u32; 8];
-    if !read_words(assignment, w, &mut x, 8) {
-        return None;
-    }
-    Some(State {
-        a: x[0],
-        b: x[1],
-        c: x[2],
-        d: x[3],
-        e: x[4],
-        f: x[5],
-        g: x[6],
-        h: x[7],
-    })
+    let words = read_words::<8>(assignment, w)?;
+    Some(words.into())
 }

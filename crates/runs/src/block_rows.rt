@@ -1,5 +1,5 @@
 // The rows of one block that hold because of what its wires are.
-ghost use Rattle.std.specs.Prelude.{◌≡◌, ◌+◌, ◌*◌, ◌<◌, ◌≤◌, length};
+ghost use Rattle.std.specs.Prelude.{◌≡◌, ◌+◌, ◌*◌, ◌<◌, ◌≤◌, length, take};
 ghost use Rattle.assignment.specs.Assignment.{entry};
 ghost use Rattle.assignment.specs.Bounded.{BelowPrime};
 ghost use Rattle.block.specs.Steps.{block_rows, computed_rows};
@@ -23,16 +23,25 @@ use circuit::frame::block_first;
 use circuit::wire::beginning;
 use refusal::numbers::WireNumber;
 
-// How many rows of block i past those of its bits hold, from the first on, because its wires are what its bits, the words x, and the
+// W0 to W15, with room for the rest of an expansion.
+fn with_room(words: [u32; 16]) -> [u32; 68]
+    ensures { take 16 result ≡ words }
+{
+    let mut x = [0u32; 68];
+    x[..16].copy_from_slice(&words);
+    x
+}
+
+// How many rows of block i past those of its bits hold, from the first on, because its wires are what its bits, W0 to W15, and the
 // words that it begins with make them.
 fn computed_rows_passed(
     circuit: Circuit,
     i: u64,
     assignment: &[u8],
-    x: &mut [u32; 68],
+    words: [u32; 16],
     t: &[u32; 64],
 ) -> u64
-    requires { Allowed circuit × (length assignment.now ≡ 8 * wire_count circuit) × (entry assignment.now 0 ≡ 1) × BelowPrime assignment.now × (t.now ≡ tab 64 rotated_constant) × (i < block_count circuit) × (length x.old ≡ 68) × BitsOfWords (block_first i) 16 x.old assignment.now }
+    requires { Allowed circuit × (length assignment.now ≡ 8 * wire_count circuit) × (entry assignment.now 0 ≡ 1) × BelowPrime assignment.now × (t.now ≡ tab 64 rotated_constant) × (i < block_count circuit) × BitsOfWords (block_first i) 16 words assignment.now }
     ensures { (result ≤ computed_rows) × RowsHold circuit (state_rows + block_rows * i + 512) result assignment.now }
 {
     let first = block_first(i);
@@ -40,11 +49,12 @@ fn computed_rows_passed(
     let Some(v) = read_state(assignment, begin) else {
         return 0;
     };
-    let words = expanded_words_agree(assignment, WireNumber(first.0 + EXPANSION), x);
-    if words < 52 {
-        return EXPANDED_ROWS * words;
+    let mut x = with_room(words);
+    let expanded = expanded_words_agree(assignment, WireNumber(first.0 + EXPANSION), &mut x);
+    if expanded < 52 {
+        return EXPANDED_ROWS * expanded;
     }
-    EXPANSION_ROWS + rows_past_expansion(assignment, first, v, x, t)
+    EXPANSION_ROWS + rows_past_expansion(assignment, first, v, &x, t)
 }
 
 // How many rows of block i hold, from the first on, because of what its wires are. The rows of its 512 bits hold where these are bits,
@@ -53,10 +63,9 @@ pub fn rows_passed(circuit: Circuit, i: u64, assignment: &[u8], t: &[u32; 64]) -
     requires { Allowed circuit × (length assignment.now ≡ 8 * wire_count circuit) × (entry assignment.now 0 ≡ 1) × BelowPrime assignment.now × (t.now ≡ tab 64 rotated_constant) × (i < block_count circuit) }
     ensures { (result ≤ block_rows) × RowsHold circuit (state_rows + block_rows * i) result assignment.now }
 {
-    let mut x = [0u32; 68];
-    if !read_words(assignment, block_first(i), &mut x, 16) {
+    let Some(words) = read_words::<16>(assignment, block_first(i)) else {
         return 0;
-    }
+    };
     let message = message_of(circuit, i);
     if !padding_agrees(assignment, message, i) {
         return 0;
@@ -64,5 +73,5 @@ pub fn rows_passed(circuit: Circuit, i: u64, assignment: &[u8], t: &[u32; 64]) -
     if !content_holds(circuit, message, i, assignment) {
         return 0;
     }
-    MESSAGE_ROWS + computed_rows_passed(circuit, i, assignment, &mut x, t)
+    MESSAGE_ROWS + computed_rows_passed(circuit, i, assignment, words, t)
 }

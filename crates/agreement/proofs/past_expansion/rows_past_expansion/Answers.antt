@@ -51,5 +51,5 @@ pub returns : goal.returns
 returns c =
     let a = c.args in
     end_reached a.first.0 a.x.now a.v c.w_primes_agree-w_primes.ensures c.if-w_primes-lt64.false c.rounds_agree-rounds.ensures
-    c.rows_before_round-before_round.ensures.0 c.if-rounds-lt64.false c.xor_states-result.ensures
+    c.rows_before_round-before_round.ensures.0 c.if-rounds-lt64.false c.bitxor-result.ensures
     (c.state_agrees.ensures c.if-not-state_agrees.false)

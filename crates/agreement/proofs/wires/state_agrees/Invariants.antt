@@ -6,4 +6,4 @@ use Rattle.agreement.proofs.wires.state_agrees.Given as goal
 
 abbrev pub invariant-loop-k : goal.invariant-loop-k
 invariant-loop-k l =
-    (l.k ≤ 8) × ((i : ℕ) → i < l.k → Agrees (l.w.0 + 32 * i) 32 (word_wires (get_or l.words i 0)) l.assignment)
+    (l.k ≤ 8) × ((i : ℕ) → i < l.k → Agrees (l.w.0 + 32 * i) 32 (word_wires (get_or l.word-items i 0)) l.assignment)

@@ -1,6 +1,6 @@
 -- Before turn j the first j words are read. A word whose entries are not bits decides the answer.
-use mathlib.Core.Bool.{false≢true}
-use Rattle.std.proofs.Common.{◌≡◌, ℕ, ◌+◌, ◌*◌, ◌<◌, List, length, get_or, set, sym, refl, ◌∙◌, subst, arith, length-set, get_or-set_other, get_or-set_same, below_none, below_more}
+use Rattle.std.proofs.Common.{◌≡◌, ℕ, ◌+◌, ◌*◌, ◌<◌, List, length, get_or, set, sym, ◌∙◌, subst, arith, length-set, get_or-set_other, get_or-set_same, below_none, below_more}
+use Rattle.std.proofs.lemmas.List.{length-replicate}
 use Rattle.agreement.proofs.Agreeing.{bits_lt}
 use Rattle.agreement.specs.Agrees.{BitsOf, BitsOfWords}
 use Rattle.agreement.proofs.word_read.read_words.Goals as goal
@@ -17,31 +17,23 @@ one_more {w} {j} {x} {words} {bytes} room h e =
     }
 
 pub loop-j-init : goal.loop-j-init
-loop-j-init c = (omega arith, refl, record { each = below_none _ })
+loop-j-init g c = (omega arith, length-replicate _ _, record { each = below_none _ })
 
-pub shape_of-words-then-s-gt1 : goal.shape_of-words-then-s-gt1
-shape_of-words-then-s-gt1 c = c.loop-j.invariant.1
-
-pub returns-then-s-gt1 : goal.returns-then-s-gt1
-returns-then-s-gt1 c = λ e. absurd (false≢true e)
-
-pub overflow_cast-words : goal.overflow_cast-words
-overflow_cast-words c = omega (arith, bits_lt (c.read_standing-s.ensures (omega (arith, c.if-s-gt1.false))))
-
-pub bounds-words-j : goal.bounds-words-j
-bounds-words-j c = omega (arith, c.loop-j.invariant.1)
+pub overflow_cast-word : goal.overflow_cast-word
+overflow_cast-word g c = omega (arith, bits_lt (c.read_standing-s.ensures (omega (arith, c.if-s-gt1.false))))
 
 pub loop-j-preserved : goal.loop-j-preserved
-loop-j-preserved c = (
-  omega arith,
-  length-set c.loop-j.words c.loop-j.j _ ∙ c.loop-j.invariant.1,
-  one_more (omega (arith, c.loop-j.invariant.1)) c.loop-j.invariant.2 (c.read_standing-s.ensures (omega (arith, c.if-s-gt1.false))),
-)
-
-pub shape_of-words : goal.shape_of-words
-shape_of-words c = c.loop-j.invariant.1
+loop-j-preserved g c =
+    let l = c.loop-j in (
+      omega arith,
+      length-set l.word-items l.j _ ∙ l.invariant.1,
+      one_more (omega (arith, l.invariant.1)) l.invariant.2 (c.read_standing-s.ensures (omega (arith, c.if-s-gt1.false))),
+    )
 
 pub returns : goal.returns
-returns c =
-    let all : c.loop-j.j ≡ c.args.n = omega arith in
-    λ e. rw all at c.loop-j.invariant.2
+returns g c =
+    let l = c.loop-j in
+    let all : l.j ≡ g.row.N = omega arith in
+    λ words e.
+    let same : l.word-items ≡ words = cc in
+    subst (λ v. BitsOfWords c.args.w.0 g.row.N v c.args.assignment.now) same (rw all at l.invariant.2)

@@ -4,5 +4,5 @@ use Rattle.agreement.specs.Agrees.{BitsOfWords}
 use Rattle.agreement.proofs.word_read.read_words.Given as goal
 
 abbrev pub invariant-loop-j : goal.invariant-loop-j
-invariant-loop-j l =
-    (l.j ≤ l.n) × (length l.words ≡ length l.initial.words) × BitsOfWords l.w.0 l.j l.words l.assignment
+invariant-loop-j g l =
+    (l.j ≤ l.j-end) × (length l.word-items ≡ l.j-end) × BitsOfWords l.w.0 l.j l.word-items l.assignment

@@ -1,7 +1,8 @@
 -- The words that are read off the block's bits are its first words, so the expansion that is computed from them is the block's; and up to
 -- the first wires that do not agree, the rows hold by `BlockHolds`.
 use mathlib.Core.List.{List}
-use mathlib.Core.Path.{◌≡◌, ◌∙◌, ap, subst, subst₂}
+use Rattle.std.proofs.lemmas.List.{take_all}
+use mathlib.Core.Path.{◌≡◌, ◌∙◌, ap, subst, subst₂, sym}
 use Prim.Native.Nat.{ℕ, ◌+◌, ◌*◌, ◌<◌, ◌≤◌}
 use native.Mathlib.Omega.{arith}
 use lib.Dec.{lit≤}
@@ -28,15 +29,15 @@ use Rattle.sm3.specs.Sm3.{expansion}
 use Rattle.sm3.specs.declared.state.State.{State}
 use Rattle.runs.proofs.block_rows.computed_rows_passed.Goals as goal
 
--- Block i with the first wire F, whose bits are the words x₀ and which begins with the words v that stand from wire b on.
-module _ {bytes x₀ : List ℕ} {F b : ℕ} {v : State} (C : Circuit) (i : ℕ) (one : entry bytes 0 ≡ 1) (below : BelowPrime bytes)
-    (l : i < block_count C) (at : F ≡ block_first i) (from : b ≡ begins_at (message_of C i) i) (full : length x₀ ≡ 68)
-    (read : BitsOfWords (block_first i) 16 x₀ bytes) (state : BitsOfState b v bytes) where
+-- Block i with the first wire F, whose bits are the sixteen words, and which begins with the words v that stand from wire b on.
+module _ {bytes words : List ℕ} {F b : ℕ} {v : State} (C : Circuit) (i : ℕ) (one : entry bytes 0 ≡ 1) (below : BelowPrime bytes)
+    (l : i < block_count C) (at : F ≡ block_first i) (from : b ≡ begins_at (message_of C i) i) (full : 16 ≡ length words)
+    (read : BitsOfWords (block_first i) 16 words bytes) (state : BitsOfState b v bytes) where
   abbrev bits : ℕ → ℕ
   bits k = entry bytes (block_first i + k)
 
-  first_sixteen : take 16 x₀ ≡ expansion bits 16
-  first_sixteen = first-words 16 (lit≤ tt) (omega arith) read
+  first_sixteen : (x : List ℕ) → take 16 x ≡ words → take 16 x ≡ expansion bits 16
+  first_sixteen x front = front ∙ sym (take_all 16 words (omega arith)) ∙ first-words 16 (lit≤ tt) (omega arith) read
 
   begun : BitsOfState (begins_at (message_of C i) i) v bytes
   begun = subst (λ w. BitsOfState w v bytes) from state
@@ -58,10 +59,10 @@ module _ {bytes x₀ : List ℕ} {F b : ℕ} {v : State} (C : Circuit) (i : ℕ)
         (subst₂ (λ F x. PastExpansion F x v bytes r) at words past)
 
 -- where block i begins, its wires are those of the assignment
-room : (C : Circuit) (i F : ℕ) (bytes : List ℕ) → i < block_count C → F ≡ block_first i → length bytes ≡ 8 * wire_count C
+wires_within : (C : Circuit) (i F : ℕ) (bytes : List ℕ) → i < block_count C → F ≡ block_first i → length bytes ≡ 8 * wire_count C
     → 8 * (F + wires_per_block) ≤ length bytes
 unfolding wire_count
-room C i F bytes l at size = omega arith
+wires_within C i F bytes l at size = omega arith
 
 pub block_first-first-requires : goal.block_first-first-requires
 block_first-first-requires c =
@@ -75,28 +76,28 @@ read_state-requires c =
 pub returns-in_default : goal.returns-in_default
 returns-in_default c = (omega arith, hold_none _)
 
-pub expanded_words_agree-words-requires : goal.expanded_words_agree-words-requires
-expanded_words_agree-words-requires c =
+pub expanded_words_agree-expanded-requires : goal.expanded_words_agree-expanded-requires
+expanded_words_agree-expanded-requires c =
     let a = c.args in
-    (c.requires.6, omega (arith, room a.circuit a.i _ a.assignment.now c.requires.5 c.block_first-first.ensures.0 c.requires.1))
+    (omega arith, omega (arith, wires_within a.circuit a.i _ a.assignment.now c.requires.5 c.block_first-first.ensures.0 c.requires.1))
 
-pub returns-then-words-lt52 : goal.returns-then-words-lt52
-returns-then-words-lt52 c =
+pub returns-then-expanded-lt52 : goal.returns-then-expanded-lt52
+returns-then-expanded-lt52 c =
     let p = c.requires in
     let a = c.args in
     let from = c.beginning-begin.ensures.0 ∙ ap (λ (m : MessageSpan). begins_at m a.i) c.message_of.ensures.0 in
     let state = c.read_state.ensures _ c.in-Some.is in
     let at = c.block_first-first.ensures.0 in
-    let told = c.expanded_words_agree-words.ensures in (
+    let told = c.expanded_words_agree-expanded.ensures in (
       omega (arith, told.0),
-      words_hold a.circuit a.i p.2 p.3 p.5 at from p.6 p.7 state told.0
-          (told.1 _ (first_sixteen a.circuit a.i p.2 p.3 p.5 at from p.6 p.7 state)).1,
+      words_hold a.circuit a.i p.2 p.3 p.5 at from (omega arith) p.6 state told.0
+          (told.1 _ (first_sixteen a.circuit a.i p.2 p.3 p.5 at from (omega arith) p.6 state _ c.with_room-x.ensures)).1,
     )
 
 pub rows_past_expansion-requires : goal.rows_past_expansion-requires
 rows_past_expansion-requires c =
     let a = c.args in
-    (c.requires.4, room a.circuit a.i _ a.assignment.now c.requires.5 c.block_first-first.ensures.0 c.requires.1)
+    (c.requires.4, wires_within a.circuit a.i _ a.assignment.now c.requires.5 c.block_first-first.ensures.0 c.requires.1)
 
 pub overflow_add-result : goal.overflow_add-result
 overflow_add-result c = omega (arith, past_few c.rows_past_expansion.ensures)
@@ -108,8 +109,8 @@ returns c =
     let from = c.beginning-begin.ensures.0 ∙ ap (λ (m : MessageSpan). begins_at m a.i) c.message_of.ensures.0 in
     let state = c.read_state.ensures _ c.in-Some.is in
     let at = c.block_first-first.ensures.0 in
-    let told = c.expanded_words_agree-words.ensures in
-    let words = told.1 _ (first_sixteen a.circuit a.i p.2 p.3 p.5 at from p.6 p.7 state) in
-    let all : c.expanded_words_agree-words.result ≡ 52 = omega (arith, told.0, c.if-words-lt52.false) in
+    let told = c.expanded_words_agree-expanded.ensures in
+    let words = told.1 _ (first_sixteen a.circuit a.i p.2 p.3 p.5 at from (omega arith) p.6 state _ c.with_room-x.ensures) in
+    let all : c.expanded_words_agree-expanded.result ≡ 52 = omega (arith, told.0, c.if-expanded-lt52.false) in
     let past = c.rows_past_expansion.ensures in
-    (omega (arith, past_few past), past_hold a.circuit a.i p.2 p.3 p.5 at from p.6 p.7 state told.0 words.1 all (words.0 all) past)
+    (omega (arith, past_few past), past_hold a.circuit a.i p.2 p.3 p.5 at from (omega arith) p.6 state told.0 words.1 all (words.0 all) past)

@@ -18,10 +18,10 @@ pub read_words-requires : goal.read_words-requires
 unfolding wire_count
 read_words-requires c =
     let p = c.requires in
-    (omega arith, omega (arith, c.block_first.ensures.0, p.1, p.5))
+    omega (arith, c.block_first.ensures.0, p.1, p.5)
 
-pub returns-then-not-read_words : goal.returns-then-not-read_words
-returns-then-not-read_words c = (omega arith, hold_none _)
+pub returns-in_default : goal.returns-in_default
+returns-in_default c = (omega arith, hold_none _)
 
 pub padding_agrees-requires : goal.padding_agrees-requires
 unfolding wire_count
@@ -35,7 +35,7 @@ returns-then-not-padding_agrees c = (omega arith, hold_none _)
 pub content_holds-requires : goal.content_holds-requires
 content_holds-requires c =
     let p = c.requires in
-    let words = c.read_words.ensures c.if-not-read_words.false in (
+    let words = c.read_words.ensures _ c.in-Some.is in (
       p.0,
       p.1,
       p.2,
@@ -52,14 +52,13 @@ returns-then-not-content_holds c = (omega arith, hold_none _)
 pub computed_rows_passed-requires : goal.computed_rows_passed-requires
 computed_rows_passed-requires c =
     let p = c.requires in
-    let words = c.read_words.ensures c.if-not-read_words.false in (
+    let words = c.read_words.ensures _ c.in-Some.is in (
       p.0,
       p.1,
       p.2,
       p.3,
       p.4,
       p.5,
-      omega (arith, c.read_words.auto),
       words-at c.block_first.ensures.0 words,
     )
 
