@@ -1,6 +1,7 @@
 pub mod Bits
 pub mod ByteBits
 pub mod Bytes
+pub mod Chunk
 pub mod Filling
 pub mod Lowest
 pub mod PackedBits

@@ -2,8 +2,6 @@
 ghost use Rattle.std.specs.Prelude.{◌≡◌, ◌<◌, ◌^◌, length};
 ghost use Rattle.encoding.specs.Packed.{packed_length, spare_bits};
 
-use crate::read::wide;
-
 // How many bytes n bits are packed into.
 pub fn packed_length(n: u64) -> u64
     requires { n < 2 ^ 32 }
@@ -22,5 +20,5 @@ pub fn spare_bits(n: u64, packed: &[u8]) -> u64
         return 0;
     }
     let at = (n / 8) as usize;
-    wide(packed[at]) % (1 << (8 - used))
+    u64::from(packed[at]) % (1 << (8 - used))
 }

@@ -7,14 +7,7 @@ ghost use Rattle.encoding.specs.Bytes.{from_least_first};
 pub fn wide(x: u8) -> u64
     ensures { (result ≡ x) × (result < 256) }
 {
-    x as u64
-}
-
-// A byte as a word.
-fn wide_word(x: u8) -> u32
-    ensures { (result ≡ x) × (result < 256) }
-{
-    x as u32
+    u64::from(x)
 }
 
 // The word that the 32 bits of the four bytes from `at` on write.
@@ -22,10 +15,7 @@ pub fn word_at(bytes: &[u8], at: usize) -> u32
     requires { at + 4 ≤ length bytes.now }
     ensures { result ≡ number 32 (λ (i : ℕ). bit_of_bytes bytes.now (8 * at + i)) }
 {
-    wide_word(bytes[at]) * 16777216
-        + wide_word(bytes[at + 1]) * 65536
-        + wide_word(bytes[at + 2]) * 256
-        + wide_word(bytes[at + 3])
+    u32::from_be_bytes(*bytes[at..].first_chunk().unwrap())
 }
 
 // The number that four bytes from `at` on write, the least first.
@@ -33,10 +23,7 @@ pub fn four_bytes(bytes: &[u8], at: usize) -> u64
     requires { at + 4 ≤ length bytes.now }
     ensures { (result ≡ from_least_first 4 bytes.now at) × (result < 2 ^ 32) }
 {
-    wide(bytes[at])
-        + wide(bytes[at + 1]) * 256
-        + wide(bytes[at + 2]) * 65536
-        + wide(bytes[at + 3]) * 16777216
+    u64::from(u32::from_le_bytes(*bytes[at..].first_chunk().unwrap()))
 }
 
 // The number that eight bytes from `at` on write, the least first. They are compiled to one load.
@@ -44,7 +31,7 @@ pub fn eight_bytes(bytes: &[u8], at: usize) -> u64
     requires { at + 8 ≤ length bytes.now }
     ensures { result ≡ from_least_first 8 bytes.now at }
 {
-    four_bytes(bytes, at) + four_bytes(bytes, at + 4) * 4294967296
+    u64::from_le_bytes(*bytes[at..].first_chunk().unwrap())
 }
 
 // Bit k of some bytes, the highest bit of a byte first.
@@ -53,5 +40,5 @@ pub fn bit_at(bytes: &[u8], k: u64) -> u64
     ensures { result ≡ bit_of_bytes bytes.now k }
 {
     let at = (k / 8) as usize;
-    (wide(bytes[at]) >> (7 - k % 8)) % 2
+    (u64::from(bytes[at]) >> (7 - k % 8)) % 2
 }

@@ -16,5 +16,5 @@ nonzero_rem-result c = subst (λ m. 0 < m) (sym (one_shifted _ (omega arith))) (
 pub returns : goal.returns
 returns c =
     let a = c.args in
-    ap₂ (λ x m. x % m) c.wide.ensures.0 (one_shifted (8 - a.n % 8) (omega arith))
+    ap₂ (λ x m. x % m) c.from.ensures (one_shifted (8 - a.n % 8) (omega arith))
     ∙ sym (spare_low a.n a.packed.now (omega arith))

@@ -4,4 +4,4 @@ use Rattle.encoding.proofs.read.bit_at.Goals as goal
 
 pub returns : goal.returns
 unfolding bit_of_bytes
-returns c = rw (← c.wide.ensures.0)
+returns c = rw (← c.from.ensures)

@@ -1,9 +1,9 @@
--- The upper four bytes weigh 2^32.
-use native.Mathlib.Omega.{arith}
-use Rattle.encoding.proofs.Bytes.{from_parts}
+-- The eight bytes are read as a number.
+use Rattle.std.proofs.Common.{◌∙◌}
+use Rattle.encoding.proofs.Chunk.{eight_read}
 use Rattle.encoding.proofs.read.eight_bytes.Goals as goal
 
 pub returns : goal.returns
 returns c =
-    let a = c.args in
-    omega (arith, from_parts 4 4 a.bytes.now a.at)
+    let first = rw c.unwrap.ensures at c.first_chunk.ensures.cases in
+    c.from_le_bytes.ensures ∙ eight_read c.args.bytes.now c.unwrap.result.now c.args.at _ first

@@ -1,21 +1,10 @@
--- The four writes go to adjacent places, as `sets` writes them.
-use native.Mathlib.Nat.{div-one}
-use native.Mathlib.Numerals.{towards_suc}
-use native.Mathlib.Omega.{arith}
-use lib.ListN.{length-set}
-use Rattle.encoding.specs.Bytes.{highest_first}
-use Rattle.encoding.specs.Sequence.{tab}
+-- The word's four bytes are copied to their place.
+use Rattle.std.proofs.Common.{◌∙◌}
+use Rattle.encoding.proofs.Bytes.{length-highest_first}
+use Rattle.encoding.proofs.Chunk.{part_written, word_bytes}
 use Rattle.encoding.proofs.write.put_word.Goals as goal
 
-pub bounds-out-at-2 : goal.bounds-out-at-2
-bounds-out-at-2 c = simp length-set (omega arith)
-
-pub bounds-out-at-3 : goal.bounds-out-at-3
-bounds-out-at-3 c = simp length-set (omega arith)
-
-pub bounds-out-at-4 : goal.bounds-out-at-4
-bounds-out-at-4 c = simp length-set (omega arith)
-
 pub returns : goal.returns
-unfolding highest_first tab
-returns c = record { left = simp (towards_suc, div-one) }
+returns c =
+    let a = c.args in
+    part_written a.at 4 _ _ a.out.now (c.copy_from_slice.ensures.after ∙ c.to_be_bytes.ensures ∙ word_bytes a.w) (length-highest_first 4 a.w) c.requires
