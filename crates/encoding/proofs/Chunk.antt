@@ -8,7 +8,7 @@ use borrow.Rule.Slice.PartMut.{put_mid}
 use lib.Seq.{sets-eq, take_all}
 use native.Mathlib.Nat.{div-one, le_of_eq}
 use Rattle.encoding.proofs.Bits.{number_of-byte, number_of_bytes}
-use Rattle.encoding.proofs.Bytes.{from_bytes_congruent, from-four, from_parts, length-highest_first, length-least_first}
+use Rattle.encoding.proofs.Bytes.{from_bytes_congruent, from-four, from_parts}
 use Rattle.encoding.specs.Bits.{bit_of_bytes, number}
 use Rattle.encoding.specs.Bytes.{Bytes, from_least_first, highest_first, least_first}
 use Rattle.encoding.specs.Sequence.{tab}
@@ -73,3 +73,7 @@ word_bytes w = simp div-one
 pub eight_bytes_lem : (x : ℕ) → to_le_bytes w64 x ≡ least_first 8 x
 unfolding least_first tab
 eight_bytes_lem x = simp div-one
+
+pub number_bytes : (x : ℕ) → to_be_bytes w64 x ≡ highest_first 8 x
+unfolding highest_first tab
+number_bytes x = simp div-one

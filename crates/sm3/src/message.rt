@@ -1,10 +1,11 @@
 // The blocks of a record's padded message, one at a time.
-ghost use Rattle.std.specs.Prelude.{◌≡◌, ℕ, ◌+◌, ◌-◌, ◌*◌, ◌/◌, ◌%◌, ◌<◌, ◌≤◌, length, take, slice_index, slice_set};
+ghost use Rattle.std.specs.Prelude.{◌≡◌, ℕ, ◌+◌, ◌-◌, ◌*◌, ◌/◌, ◌%◌, ◌<◌, ◌≤◌, ◌++◌, length, take, slice_index};
 ghost use Rattle.limits.specs.Blocks.{blocks, most_bits};
 ghost use Rattle.sm3.specs.Ended.{cut_byte, ended_byte};
 ghost use Rattle.sm3.specs.Message.{block_bits, chaining_value, digest_of, message};
 ghost use Rattle.sm3.specs.Sm3.{block, expansion};
 ghost use Rattle.encoding.specs.Bits.{bit_of_bytes};
+ghost use Rattle.encoding.specs.Bytes.{highest_first};
 ghost use Rattle.encoding.specs.Packed.{packed_length};
 ghost use Rattle.encoding.specs.Sequence.{tab};
 
@@ -12,7 +13,6 @@ use crate::compression::compress;
 use crate::constants::start_state;
 use crate::expansion::first_words;
 use crate::state::State;
-use encoding::read::wide;
 use limits::blocks::block_count;
 
 // The bytes of the record from `at` on, at most 64, with zeros after them; zeros alone where the record ends before.
@@ -40,7 +40,7 @@ fn cut_byte(x: u8, used: u64) -> u8
     ensures { result ≡ cut_byte used x }
 {
     let zeros = 7 - used;
-    (((wide(x) >> zeros) / 2 * 2 + 1) << zeros) as u8
+    ((x >> zeros) / 2 * 2 + 1) << zeros
 }
 
 // Block i of the message, one that the record does not fill, up to the bit length: the end of the record, the bit 1, zeros.
@@ -58,14 +58,12 @@ fn ended(bits: u64, bytes: &[u8], i: usize) -> [u8; 64]
     b
 }
 
-// A block with the bit length of a record in its last two bytes: it is too small for the six before them.
+// A block with the bit length of a record in its last eight bytes.
 fn with_length(b: [u8; 64], bits: u64) -> [u8; 64]
-    requires { bits ≤ most_bits }
-    ensures { result ≡ slice_set (slice_set b 62 (bits / 256)) 63 (bits % 256) }
+    ensures { result ≡ take 56 b ++ highest_first 8 bits }
 {
     let mut r = b;
-    r[62] = (bits / 256) as u8;
-    r[63] = (bits % 256) as u8;
+    r[56..].copy_from_slice(&bits.to_be_bytes());
     r
 }
 

@@ -26,8 +26,8 @@ module _ (bytes : List ℕ) (at m : ℕ) (is : m ≡ min at (length bytes)) (sho
       → ys ++ drop (length (take (length bytes - m) (drop m bytes))) zs ≡ tab 64 (λ k. get_or bytes (at + k) 0)
   unfolding rest
   tail_copied ys zs copied zeros =
-      let n : ℕ = length bytes - m in
-      let left : List ℕ = drop (length rest) zs in
+      let n = length bytes - m in
+      let left = drop (length rest) zs in
       let size : length zs ≡ 64 = ap length zeros ∙ length-tab 64 (λ k. 0) in
       let front : length ys ≡ n = ap length copied ∙ length-rest in
       let whole : length (ys ++ left) ≡ 64 =

@@ -1,30 +1,29 @@
 -- The blocks that a record does not fill, as lists of bytes: zeros past the record, or the record's last bytes with its end cut; in
--- the last block with the bit length in the last two bytes, since the six before them are 0. Each byte is the message's.
-use Rattle.std.proofs.Common.{◌≡◌, ℕ, ◌+◌, ◌-◌, ◌*◌, ◌/◌, ◌%◌, ◌^◌, ◌<◌, ◌≤◌, List, length, get_or, set, sym, refl, ap, ◌∙◌, subst, ap₂, arith, pow_mono, eq-eqb, ne_eqb}
+-- the last block with the bit length in the last eight bytes. Each byte is the message's.
+use Rattle.std.proofs.Common.{◌≡◌, ℕ, zero, suc, ◌+◌, ◌-◌, ◌*◌, ◌/◌, ◌%◌, ◌^◌, ◌<◌, ◌≤◌, cond, ltb, List, ◌++◌, length, get_or, set, take, sym, refl, ap, ◌∙◌, subst, ap₂, pow-suc, arith, pow-add, eq-eqb, ne_eqb, le-ltb, lt-ltb}
+use mathlib.Core.Logic.{by_cases}
 use native.Mathlib.Decide.{ℕ_discrete, dec_lt}
-use native.Mathlib.Nat.{div-eq_of_lt}
 use lib.ListN.{get_or-eq_default}
 use Rattle.encoding.proofs.Filling.{set-tab, wrote}
-use Rattle.encoding.proofs.Tab.{get_or-tab, tab_congruent}
+use Rattle.encoding.proofs.Tab.{get_or-tab, tab-add, tab_congruent, take-tab}
+use Rattle.encoding.specs.Bytes.{highest_first}
 use Rattle.encoding.specs.Packed.{packed_length}
 use Rattle.encoding.specs.Sequence.{tab}
-use Rattle.limits.specs.Blocks.{blocks, most_bits}
+use Rattle.limits.specs.Blocks.{blocks}
 use Rattle.sm3.proofs.message.Padding.{IsByte, cut_byte_lem, cut_after, in_record, length-byte, past_record, record_end}
 use Rattle.sm3.specs.Ended.{cut_byte, ended_byte}
 
--- of the bytes of a bit length, counted from the last, all but two are 0
-high_byte : (n m : ℕ) → n ≤ most_bits → 2 ≤ m → n / 2 ^ (8 * m) % 256 ≡ 0
-high_byte n m h l =
-    let bits : 16 ≤ 8 * m = omega arith in
-    let large : 2 ^ 16 ≤ 2 ^ (8 * m) = pow_mono bits in
-    let none : n / 2 ^ (8 * m) ≡ 0 = div-eq_of_lt (omega arith) in
-    ap (λ (t : ℕ). t % 256) none
+-- a byte of a number weighs eight bits
+bytes_weigh : (m : ℕ) → 256 ^ m ≡ 2 ^ (8 * m)
+bytes_weigh zero = refl
+bytes_weigh (suc m) =
+    let more : 8 * suc m ≡ 8 * m + 8 = omega arith in
+    pow-suc 256 m ∙ ap (λ t. t * 256) (bytes_weigh m) ∙ sym (pow-add 2 (8 * m) 8) ∙ ap (λ k. 2 ^ k) (sym more)
 
 module _ (n : ℕ) (bytes : List ℕ) (i : ℕ) where
-  -- the bytes of block i up to the bit length: the message's before it, and 0 past the record
-  pub record Laid (f : ℕ → ℕ) : Type 0 where
-    pub before-length : (x : ℕ) → 8 * (64 * i + x) + 8 ≤ 512 * blocks n - 64 → IsByte n bytes (64 * i + x) (f x)
-    pub past : (x : ℕ) → n < 8 * (64 * i + x) → f x ≡ 0
+  -- the bytes of block i up to the bit length are the message's
+  abbrev pub Laid : (ℕ → ℕ) → Type 0
+  Laid f = (x : ℕ) → 8 * (64 * i + x) + 8 ≤ 512 * blocks n - 64 → IsByte n bytes (64 * i + x) (f x)
 
   abbrev pub ended_bytes : ℕ → ℕ
   ended_bytes x = ended_byte n bytes (64 * i + x)
@@ -37,11 +36,7 @@ module _ (n : ℕ) (bytes : List ℕ) (i : ℕ) where
     past_end x l = elsewhere x (omega arith) ∙ get_or-eq_default bytes 0 (omega arith)
 
     pub ended_laid : Laid ended_bytes
-    ended_laid =
-        record {
-          before-length = λ x l. by x l (ℕ_discrete (64 * i + x) (n / 8)) (dec_lt (64 * i + x) (n / 8));
-          past = λ x l. past_end x (omega arith);
-        }
+    ended_laid x l = by x l (ℕ_discrete (64 * i + x) (n / 8)) (dec_lt (64 * i + x) (n / 8))
       where
         by : (x : ℕ) → 8 * (64 * i + x) + 8 ≤ 512 * blocks n - 64 → Dec (64 * i + x ≡ n / 8) → Dec (64 * i + x < n / 8)
             → IsByte n bytes (64 * i + x) (ended_bytes x)
@@ -78,37 +73,35 @@ module _ (n : ℕ) (bytes : List ℕ) (i : ℕ) where
     -- one before the last
     pub not_last : 512 * i + 512 < n + 65 → (x : ℕ) → x < 64 → IsByte n bytes (64 * i + x) (f x)
     unfolding blocks
-    not_last h x l = laid.before-length x (omega arith)
+    not_last h x l = laid x (omega arith)
 
     abbrev pub with_length : ℕ → ℕ
-    with_length = wrote (wrote f 62 (n / 256)) 63 (n % 256)
+    with_length x = cond (ltb x 56) (f x) (n / 256 ^ (63 - x) % 256)
 
-    pub length-set : (t : List ℕ) → t ≡ tab 64 f → set (set t 62 (n / 256)) 63 (n % 256) ≡ tab 64 with_length
+    pub length-set : (t : List ℕ) → t ≡ tab 64 f → take 56 t ++ highest_first 8 n ≡ tab 64 with_length
+    unfolding highest_first
     length-set t e =
-        ap (λ (u : List ℕ). set (set u 62 (n / 256)) 63 (n % 256)) e
-        ∙ ap (λ (u : List ℕ). set u 63 (n % 256)) (set-tab 64 f 62 (n / 256) (omega arith))
-        ∙ set-tab 64 (wrote f 62 (n / 256)) 63 (n % 256) (omega arith)
+        ap₂ (λ (u v : List ℕ). u ++ v)
+        (ap (take 56) e ∙ take-tab 56 64 f (omega arith) ∙ tab_congruent 56 _ _ (λ k l. sym (simp (lt-ltb k 56 l))))
+        (tab_congruent 8 _ _
+        (λ k l.
+        let place : 8 - 1 - k ≡ 63 - (56 + k) = omega arith in
+        ap (λ m. n / 256 ^ m % 256) place ∙ sym (simp (le-ltb (56 + k) 56 (omega arith)))))
+        ∙ sym (tab-add 56 8 with_length)
 
     -- the last one
-    module _ (h : n + 65 ≤ 512 * i + 512) (below : i < blocks n) (range : n ≤ most_bits) where
+    module _ (h : n + 65 ≤ 512 * i + 512) (below : i < blocks n) where
       -- byte m of the length, counted from the last
-      at_length : (x m y : ℕ) → x + m ≡ 63 → m < 8 → y ≡ n / 2 ^ (8 * m) % 256 → IsByte n bytes (64 * i + x) y
+      at_length : (x m : ℕ) → x + m ≡ 63 → m < 8 → IsByte n bytes (64 * i + x) (n / 256 ^ m % 256)
       unfolding blocks
-      at_length x m y e few is =
-          subst (IsByte n bytes (64 * i + x)) (sym is) (length-byte n bytes (64 * i + x) m (omega arith) few)
+      at_length x m e few =
+          subst (λ t. IsByte n bytes (64 * i + x) (n / t % 256)) (sym (bytes_weigh m))
+          (length-byte n bytes (64 * i + x) m (omega arith) few)
 
       pub last : (x : ℕ) → x < 64 → IsByte n bytes (64 * i + x) (with_length x)
       unfolding blocks
-      last x l = by (ℕ_discrete x 63) (ℕ_discrete x 62) (dec_lt x 56)
-        where
-          by : Dec (x ≡ 63) → Dec (x ≡ 62) → Dec (x < 56) → IsByte n bytes (64 * i + x) (with_length x)
-          by (yes e) d b = at_length x 0 (with_length x) (omega arith) (omega arith) (simp (eq-eqb x 63 e) (omega arith))
-          by (no d) (yes e) b =
-              at_length x 1 (with_length x) (omega arith) (omega arith) (simp (ne_eqb x 63 d, eq-eqb x 62 e) (omega arith))
-          by (no d) (no e) (yes b) =
-              let same : with_length x ≡ f x = simp (ne_eqb x 63 d, ne_eqb x 62 e) in
-              subst (IsByte n bytes (64 * i + x)) (sym same) (laid.before-length x (omega arith))
-          by (no d) (no e) (no b) =
-              at_length x (63 - x) (with_length x) (omega arith) (omega arith)
-              (simp (ne_eqb x 63 d, ne_eqb x 62 e)
-              (laid.past x (omega arith) ∙ sym (high_byte n (63 - x) range (omega arith))))
+      last x l =
+          by_cases (dec_lt x 56)
+          (λ before. subst (IsByte n bytes (64 * i + x)) (sym (simp (lt-ltb x 56 before))) (laid x (omega arith)))
+          (λ from.
+          subst (IsByte n bytes (64 * i + x)) (sym (simp (le-ltb x 56 (omega arith)))) (at_length x (63 - x) (omega arith) (omega arith)))

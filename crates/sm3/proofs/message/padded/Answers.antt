@@ -21,7 +21,7 @@ returns-then-bits-i c =
     let laid = ended_laid a.bits bytes a.i (omega arith) in
     let f = ended_bytes a.bits bytes a.i in
     block-bits a.bits bytes a.i (with_length a.bits bytes a.i f laid)
-    (last a.bits bytes a.i f laid (omega arith) (omega arith) (omega arith)) c.with_length.result
+    (last a.bits bytes a.i f laid (omega arith) (omega arith)) c.with_length.result
     (c.with_length.ensures ∙ length-set a.bits bytes a.i f laid b.result b.ensures)
 
 pub returns : goal.returns
