@@ -11,6 +11,7 @@ fn fill(rt: &HostRuntime, buf: &mut [u8]) -> io::Result<usize>
     ensures { IfOk result (λ n. n ≤ length buf.new) }
 {
     let mut n = 0;
+    // A read gives as many bytes as it likes, so the place is counted here.
     while n < buf.len() {
         let more = rt.stdin().read(&mut buf[n..])?;
         if more == 0 {
@@ -26,14 +27,18 @@ fn fill(rt: &HostRuntime, buf: &mut [u8]) -> io::Result<usize>
 pub fn read_input(rt: &HostRuntime, buf: &mut [u8]) -> io::Result<usize>
     ensures { IfOk result (λ n. n ≤ length buf.new) }
 {
+    // Where saying it fails too, nothing is left to do.
     fill(rt, buf).inspect_err(|_| {
         let _ = eprintln!(rt; "cannot read standard input");
     })
 }
 
+// Says on standard error that a write failed; where that fails too, nothing is left to do.
+pub fn say_unwritten(rt: &HostRuntime) {
+    let _ = eprintln!(rt; "cannot write to standard output");
+}
+
 // Writes to standard output.
 pub fn print(rt: &HostRuntime, s: &[u8]) -> io::Result<()> {
-    rt.stdout().write_all(s).inspect_err(|_| {
-        let _ = eprintln!(rt; "cannot write to standard output");
-    })
+    rt.stdout().write_all(s).inspect_err(|_| say_unwritten(rt))
 }

@@ -1,6 +1,6 @@
 -- The worked figures that document 01 marks P, one table: what the definitions give, beside the paper's figure. Lengths are in
 -- bits, the unit that document 02's request 2 gives every figure. The definitions are the ones that the contracts cite.
-use Rattle.std.specs.Prelude.{ℕ, ◌+◌, ◌-◌, ◌*◌, ◌^◌, List, [], ◌∷◌, ◌++◌, pos, slice_index_or, Ok}
+use Rattle.std.specs.Prelude.{ℕ, ◌+◌, ◌-◌, ◌*◌, ◌^◌, List, [], ◌∷◌, ◌++◌, pos, slice_index_or}
 use Rattle.assignment.specs.BelowPrime.{below_prime_answer}
 use Rattle.circuit.specs.declared.circuits.Circuit.TheVariants.{Axles, Record}
 use Rattle.limits.specs.Blocks.{blocks}

@@ -21,7 +21,7 @@ ghost use Rattle.circuit.specs.GivenRow.{row_bytes};
 ghost use Rattle.limits.specs.Blocks.{most_bits};
 
 use circuit::given_row::ROW_BYTES;
-use console::print;
+use console::say_unwritten;
 use encoding::packed::packed_length;
 use encoding::read::{eight_bytes, four_bytes};
 use forms::terms::Counts;
@@ -29,119 +29,95 @@ use limits::limit::OUR_LIMIT;
 use record::row::row;
 use refusal::numbers::RowNumber;
 use sample::counted;
-use text::decimal::put_decimal;
+use sm3::digest::digest;
+use std::io;
 
-// 2^63, from which on eight bytes of two's complement are negative.
-const SIGN_BIT: u64 = 9223372036854775808;
+// The lengths in bits of the records whose byte k is k mod 251: those that OpenSSL hashes, and then the others.
+const LENGTHS: [u64; 17] = [
+    0, 440, 448, 504, 512, 952, 960, 8120, 1, 5, 447, 449, 505, 511, 959, 961, 8127,
+];
 
-// The hexadecimal digit of a number's lowest four bits.
-fn hex_digit(x: u8) -> u8 {
-    let low = x % 16;
-    if low < 10 { 48 + low } else { 87 + low }
-}
+// The rows, each the length of its record in bits and its number.
+const ROWS: [(u64, u64); 6] = [
+    (0, 256),
+    (8, 256),
+    (1, 256),
+    (1, 257),
+    (0, 32576),
+    (0, 32832),
+];
 
 // A digest as 64 hexadecimal digits and a line feed.
-fn print_digest(rt: &HostRuntime, digest: &[u8; 32]) {
-    let mut line = [10u8; 65];
-    for k in 0..32 {
-        line[2 * k] = hex_digit(digest[k] / 16);
-        line[2 * k + 1] = hex_digit(digest[k]);
+fn print_digest(rt: &HostRuntime, digest: &[u8; 32]) -> io::Result<()> {
+    for byte in digest {
+        print!(rt; "{byte:02x}")?;
     }
-    print(rt, &line);
+    println!(rt)
 }
 
-// The digest of a record of so many bits, printed.
-fn show(rt: &HostRuntime, bits: u64, bytes: &[u8]) {
+// The digest of a record of so many bits, printed. No record here is refused.
+fn show(rt: &HostRuntime, bits: u64, bytes: &[u8]) -> io::Result<()> {
     let mut out = [0u8; 32];
-    sm3::digest::digest(OUR_LIMIT, bits, bytes, &mut out);
-    print_digest(rt, &out);
+    let _ = digest(OUR_LIMIT, bits, bytes, &mut out);
+    print_digest(rt, &out)
 }
 
 // The record of so many bits whose byte k is k mod 251.
-fn show_counted(rt: &HostRuntime, bits: u64)
+fn show_counted(rt: &HostRuntime, bits: u64) -> io::Result<()>
     requires { bits ≤ most_bits }
 {
     let bytes = counted(bits);
     let end = packed_length(bits) as usize;
-    show(rt, bits, &bytes[..end]);
+    show(rt, bits, &bytes[..end])
 }
 
-// A number in decimal, and a blank.
-fn print_number(rt: &HostRuntime, x: u64) {
-    let mut digits = [0u8; 20];
-    let end = put_decimal(&mut digits, 0, x);
-    print(rt, &digits[..end]);
-    print(rt, b" ");
-}
-
-// The number whose two's complement in eight bytes is x, in decimal, and a blank.
-fn print_signed(rt: &HostRuntime, x: u64) {
-    if x < SIGN_BIT {
-        print_number(rt, x);
-        return;
-    }
-    print(rt, b"-");
-    print_number(rt, std::num::wrapping_sub_u64(0, x));
-}
-
-// The wire and the coefficient of the term in twelve bytes from `at` on.
-fn print_term(rt: &HostRuntime, bytes: &[u8; ROW_BYTES], at: usize)
+// The wire and the coefficient, which is signed, of the term in twelve bytes from `at` on.
+fn print_term(rt: &HostRuntime, bytes: &[u8; ROW_BYTES], at: usize) -> io::Result<()>
     requires { at + 12 ≤ row_bytes }
 {
-    print_number(rt, four_bytes(bytes, at));
-    print_signed(rt, eight_bytes(bytes, at + 4));
+    let wire = four_bytes(bytes, at);
+    let coefficient = eight_bytes(bytes, at + 4).cast_signed();
+    print!(rt; "{wire} {coefficient} ")
 }
 
 // The counts of a row and its first three terms.
-fn print_row(rt: &HostRuntime, n: Counts, bytes: &[u8; ROW_BYTES]) {
-    print_number(rt, 0);
-    print_number(rt, n.a as u64);
-    print_number(rt, n.b as u64);
-    print_number(rt, n.c as u64);
-    print_term(rt, bytes, 0);
-    print_term(rt, bytes, 12);
-    print_term(rt, bytes, 24);
+fn print_row(rt: &HostRuntime, n: Counts, bytes: &[u8; ROW_BYTES]) -> io::Result<()> {
+    print!(rt; "0 {} {} {} ", n.a, n.b, n.c)?;
+    for i in 0..3 {
+        print_term(rt, bytes, 12 * i)?;
+    }
+    Ok(())
 }
 
 // The row of a number for a record of so many bits: the refusal's number, or 0, the counts and three terms.
-fn show_row(rt: &HostRuntime, bits: u64, number: u64) {
+fn show_row(rt: &HostRuntime, bits: u64, number: u64) -> io::Result<()> {
     let mut out = [0u8; ROW_BYTES];
-    let answer = row(OUR_LIMIT, bits, RowNumber(number), &mut out);
-    match answer {
-        Ok(n) => print_row(rt, n, &out),
-        Err(refusal) => print_number(rt, refusal.number()),
+    match row(OUR_LIMIT, bits, RowNumber(number), &mut out) {
+        Ok(n) => print_row(rt, n, &out)?,
+        Err(refusal) => print!(rt; "{} ", refusal.number())?,
     }
-    print(rt, b"\n");
+    println!(rt)
+}
+
+// All of the figures.
+fn show_all(rt: &HostRuntime) -> io::Result<()> {
+    show(rt, 24, b"abc")?;
+    show(
+        rt,
+        512,
+        b"abcdabcdabcdabcdabcdabcdabcdabcdabcdabcdabcdabcdabcdabcdabcdabcd",
+    )?;
+    for bits in LENGTHS {
+        show_counted(rt, bits)?;
+    }
+    for (bits, number) in ROWS {
+        show_row(rt, bits, number)?;
+    }
+    Ok(())
 }
 
 fn main(rt: HostRuntime) {
-    show(&rt, 24, b"abc");
-    show(
-        &rt,
-        512,
-        b"abcdabcdabcdabcdabcdabcdabcdabcdabcdabcdabcdabcdabcdabcdabcdabcd",
-    );
-    show_counted(&rt, 0);
-    show_counted(&rt, 440);
-    show_counted(&rt, 448);
-    show_counted(&rt, 504);
-    show_counted(&rt, 512);
-    show_counted(&rt, 952);
-    show_counted(&rt, 960);
-    show_counted(&rt, 8120);
-    show_counted(&rt, 1);
-    show_counted(&rt, 5);
-    show_counted(&rt, 447);
-    show_counted(&rt, 449);
-    show_counted(&rt, 505);
-    show_counted(&rt, 511);
-    show_counted(&rt, 959);
-    show_counted(&rt, 961);
-    show_counted(&rt, 8127);
-    show_row(&rt, 0, 256);
-    show_row(&rt, 8, 256);
-    show_row(&rt, 1, 256);
-    show_row(&rt, 1, 257);
-    show_row(&rt, 0, 32576);
-    show_row(&rt, 0, 32832);
+    if show_all(&rt).is_err() {
+        say_unwritten(&rt);
+    }
 }
