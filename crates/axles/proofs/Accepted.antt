@@ -1,6 +1,6 @@
 -- When the check between two bounds accepts: where the bounds are in range and the circuit's check accepts.
 use Rattle.refusal.specs.Refusals.{done}
-use Rattle.std.specs.Prelude.{Err, Ok}
+use Rattle.std.specs.Prelude.{Err}
 use mathlib.Core.List.{List}
 use mathlib.Core.Logic.{◌↔◌}
 use mathlib.Core.Path.{◌≡◌}

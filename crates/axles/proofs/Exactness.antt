@@ -2,7 +2,6 @@
 -- the layout's, its digest is its SM3, and it is read off the record wires and packed into bytes. The rows hold exactly where the record that
 -- is read off lies in the band and the wires are its own.
 use Rattle.refusal.specs.Refusals.{done}
-use Rattle.std.specs.Prelude.{Ok}
 use mathlib.Core.Bool.{true}
 use mathlib.Core.List.{List}
 use mathlib.Core.Logic.Iff

@@ -4,7 +4,7 @@
 -- bytes"). Everything is said of raw bytes, as they are lent, and of the definitions that the contracts of `check`, `produce`, `row` and
 -- `digest` cite.
 use Rattle.refusal.specs.Refusals.{done}
-use Rattle.std.specs.Prelude.{true, List, ◌↔◌, ◌≡◌, ℕ, ◌*◌, ◌<◌, ◌≤◌, length, take, Ok}
+use Rattle.std.specs.Prelude.{true, List, ◌↔◌, ◌≡◌, ℕ, ◌*◌, ◌<◌, ◌≤◌, length, take}
 use Rattle.assignment.specs.Assignment.{wire_bytes}
 use Rattle.axles.specs.Band.{InBand}
 use Rattle.axles.specs.Check.{axles_check_answer}

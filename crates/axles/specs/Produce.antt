@@ -1,5 +1,5 @@
 -- The answer of `produce` and the bytes that it leaves (document 02, requests 5 and 8).
-use Rattle.std.specs.Prelude.{cond, not, List, ◌++◌, ℕ, ◌*◌, ltb, drop, Err, Ok}
+use Rattle.std.specs.Prelude.{cond, not, List, ◌++◌, ℕ, ◌*◌, ltb, drop, Err}
 use Rattle.assignment.specs.Assignment.{entry_bytes}
 use Rattle.axles.specs.Band.{in_band}
 use Rattle.axles.specs.Layout.{axle_wire_of}

@@ -56,7 +56,7 @@ fn put_axles(out: &mut [u8], lower: u64, upper: u64, bytes: &[u8])
 }
 
 // The assignment of a record of 63 bytes between two bounds, into the first bytes of `out`.
-#[tactic(auto, using(limits::proofs::handed::Asked::handed_stands, limits::proofs::handed::Asked::handed_passed, limits::proofs::handed::Asked::handed_range, circuit::proofs::axles::Bounds::bounds_iff, crate::proofs::Bands::band_iff, assignment::proofs::Writes::wrote_front), unfolding(crate::specs::Produce::axles_produce_answer, crate::specs::Produce::axle_assignment_of))]
+#[tactic(auto, using(limits::proofs::handed::Asked::handed_stands, limits::proofs::handed::Asked::handed_passed, limits::proofs::handed::Asked::handed_range, circuit::proofs::axles::Bounds::bounds_iff, crate::proofs::Bands::band_iff), unfolding(crate::specs::Produce::axles_produce_answer))]
 pub fn produce(lower: u64, upper: u64, bytes: &[u8], out: &mut [u8]) -> Result<(), Refusal>
     ensures value { result ≡ axles_produce_answer lower upper bytes.now (length out.old) }
     ensures out_after { out.new ≡ axles_produce_left result lower upper bytes.now out.old }

@@ -1,6 +1,6 @@
 -- The answers of packing, unpacking and the check of packed bytes, test by test. They are done past all their tests, each of which is a
 -- condition that holds; and unpacking refuses what the check of packed bytes refuses before document 01's check.
-use Rattle.std.specs.Prelude.{Err, Ok}
+use Rattle.std.specs.Prelude.{Err}
 use mathlib.Core.Bool.{not}
 use mathlib.Core.List.{List}
 use mathlib.Core.Logic.Iff

@@ -2,7 +2,6 @@
 -- 3 gives the record and says that the bits are its wires; bytes with these bits and no spare bit set are the packed wires. The other
 -- way round, packed wires unpack to the record's assignment.
 use Rattle.refusal.specs.Refusals.{done}
-use Rattle.std.specs.Prelude.{Ok}
 use mathlib.Core.List.{List}
 use mathlib.Core.Logic.{◌↔◌}
 use mathlib.Core.Path.{◌≡◌, ◌∙◌, ap, sym}

@@ -2,7 +2,6 @@
 -- that are packed are the entries, which write the assignment's bytes. An accepted assignment's wires are those of a record, which are
 -- bits.
 use Rattle.refusal.specs.Refusals.{done}
-use Rattle.std.specs.Prelude.{Ok}
 use mathlib.Core.List.{List}
 use mathlib.Core.Path.{◌≡◌, ◌∙◌, refl, subst, sym}
 use Prim.Native.Nat.{ℕ, ◌*◌, ◌<◌, ◌≤◌}
@@ -42,35 +41,35 @@ pub unpacked_packed : (wires : ℕ) (s : ℕ → ℕ) → ((w : ℕ) → w < wir
 unfolding unpacked_bytes
 unpacked_packed wires s bits = entries_congruent wires _ s (packed-bit wires s bits)
 
-module _ (l n : ℕ) (a out : List ℕ) (bytes : Bytes a) (done : pack_answer l n a (length out) ≡ done) where
+module _ (l n : ℕ) (a out : List ℕ) (bytes : Bytes a) (passed : pack_answer l n a (length out) ≡ done) where
   unpack_of_packed : (room : List ℕ) → 8 * wire_count (Record n) ≤ length room
       → (unpack_answer l n (packs l n a out) (length room) ≡ done) × (unpacks l n (packs l n a out) room ≡ a)
   unpack_of_packed room fits =
       let wires : ℕ = wire_count (Record n) in
-      let asked = (pack_done l n a (length out)).0 done in
+      let asked = (pack_done l n a (length out)).0 passed in
       let bits = asked.1.1.1 in
       let whole : unpack_answer l n (packed_bytes wires (entry a)) (length room) ≡ done =
       (unpack_done l n (packed_bytes wires (entry a)) (length room)).1
       (asked.0, (fits, (length-packed wires (entry a), (spare_of_packed wires (entry a) bits, refl)))) in
-      subst (λ q. (unpack_answer l n q (length room) ≡ done) × (unpacks l n q room ≡ a)) (sym (packs_done l n a out done)) (
+      subst (λ q. (unpack_answer l n q (length room) ≡ done) × (unpacks l n q room ≡ a)) (sym (packs_done l n a out passed)) (
         whole,
         unpacks_done l n (packed_bytes wires (entry a)) room whole
             ∙ unpacked_packed wires (entry a) bits
             ∙ sym (bytes_of_entries wires (entry a) a bytes asked.1.1.0 (λ w l. refl)),
       )
 
-module _ (l n : ℕ) (q out : List ℕ) (bytes : Bytes q) (done : unpack_answer l n q (length out) ≡ done) where
+module _ (l n : ℕ) (q out : List ℕ) (bytes : Bytes q) (passed : unpack_answer l n q (length out) ≡ done) where
   pack_of_unpacked : (room : List ℕ) → packed_length (wire_count (Record n)) ≤ length room
       → (pack_answer l n (unpacks l n q out) (length room) ≡ done) × (packs l n (unpacks l n q out) room ≡ q)
   pack_of_unpacked room fits =
       let wires : ℕ = wire_count (Record n) in
       let u = unpacked_bytes wires q in
-      let asked = (unpack_done l n q (length out)).0 done in
+      let asked = (unpack_done l n q (length out)).0 passed in
       let bits : (w : ℕ) → w < wires → entry u w < 2 =
       λ w l. omega (arith, entry_of_unpacked wires q w l, bit_of_bytes_lt q w) in
       let whole : pack_answer l n u (length room) ≡ done =
       (pack_done l n u (length room)).1 (asked.0, (fits, (length_unpacked wires q, bits))) in
-      subst (λ b. (pack_answer l n b (length room) ≡ done) × (packs l n b room ≡ q)) (sym (unpacks_done l n q out done)) (
+      subst (λ b. (pack_answer l n b (length room) ≡ done) × (packs l n b room ≡ q)) (sym (unpacks_done l n q out passed)) (
         whole,
         packs_done l n u room whole
             ∙ packed_known wires (entry u) bits q bytes asked.1.1.0 asked.1.1.1.0

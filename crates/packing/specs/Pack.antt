@@ -1,5 +1,5 @@
 -- The answer of `pack` and the bytes that it leaves (document 02, requests 1, 6 and 8).
-use Rattle.std.specs.Prelude.{cond, not, List, ◌++◌, ℕ, ◌*◌, eqb, ltb, drop, length, Err, Ok}
+use Rattle.std.specs.Prelude.{cond, not, List, ◌++◌, ℕ, ◌*◌, eqb, ltb, drop, length, Err}
 use Rattle.assignment.specs.Assignment.{entry}
 use Rattle.assignment.specs.BelowPrime.{below_prime_answer, limit_answer}
 use Rattle.circuit.specs.Wires.{wire_count}

@@ -1,6 +1,6 @@
 -- The check of packed bytes against a digest, as the program `packed` answers it (document 02, requests 1 and 8).
 use Rattle.refusal.specs.Refusals.{Outcome, done}
-use Rattle.std.specs.Prelude.{List, ◌↔◌, ◌≡◌, ℕ, ◌≤◌, Ok}
+use Rattle.std.specs.Prelude.{List, ◌↔◌, ◌≡◌, ℕ, ◌≤◌}
 use Rattle.circuit.specs.Wires.{wire_count}
 use Rattle.circuit.specs.declared.circuits.Circuit.TheVariants.{Record}
 use Rattle.encoding.specs.Bits.{bit_of_bytes}

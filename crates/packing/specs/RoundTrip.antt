@@ -1,7 +1,7 @@
 -- Packing and unpacking undo each other, and whatever is accepted can be packed (document 02, requests 1 and 6). All is said of raw
 -- bytes, as they are lent, and of the definitions that the contracts of `pack`, `unpack` and `check` cite.
 use Rattle.refusal.specs.Refusals.{done}
-use Rattle.std.specs.Prelude.{List, ◌≡◌, ℕ, ◌*◌, ◌≤◌, length, take, Ok}
+use Rattle.std.specs.Prelude.{List, ◌≡◌, ℕ, ◌*◌, ◌≤◌, length, take}
 use Rattle.circuit.specs.Wires.{wire_count}
 use Rattle.circuit.specs.declared.circuits.Circuit.TheVariants.{Record}
 use Rattle.encoding.specs.Bytes.{Bytes}

@@ -1,5 +1,5 @@
 -- The answer of `unpack` and the bytes that it leaves (document 02, requests 1 and 8).
-use Rattle.std.specs.Prelude.{cond, not, List, ◌++◌, ℕ, ◌*◌, eqb, ltb, drop, length, Err, Ok}
+use Rattle.std.specs.Prelude.{cond, not, List, ◌++◌, ℕ, ◌*◌, eqb, ltb, drop, length, Err}
 use Rattle.circuit.specs.Wires.{wire_count}
 use Rattle.circuit.specs.declared.circuits.Circuit.TheVariants.{Record}
 use Rattle.encoding.specs.Packed.{packed_length, spare_bits}

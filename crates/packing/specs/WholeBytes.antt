@@ -1,7 +1,7 @@
 -- Records of whole bytes: the answers of requests 1 and 6 for records of L bytes, in their own unit, are what the definitions give for
 -- 8 L bits (document 02, request 2).
 use Rattle.refusal.specs.Refusals.{done}
-use Rattle.std.specs.Prelude.{cond, not, List, ◌≡◌, ℕ, ◌*◌, eqb, ltb, length, Err, Ok}
+use Rattle.std.specs.Prelude.{cond, not, List, ◌≡◌, ℕ, ◌*◌, eqb, ltb, length, Err}
 use Rattle.assignment.specs.BelowPrime.{below_prime_answer}
 use Rattle.circuit.specs.WholeBytes.{wires_of_bytes}
 use Rattle.encoding.specs.Packed.{packed_length}

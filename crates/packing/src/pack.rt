@@ -20,7 +20,7 @@ use refusal::outcome::Refusal;
 
 // Refusal 20, or else 10, for the lowest of the first n entries that calls for it, if there is one. Bits are below the prime, so the
 // entries of an honest assignment are read through only once.
-#[tactic(auto, using(crate::proofs::pack::EntriesAsked::asked_none, crate::proofs::pack::EntriesAsked::asked_refused, crate::proofs::pack::EntriesAsked::asked_bit))]
+#[tactic(auto, using(crate::proofs::pack::EntriesAsked::asked_none, crate::proofs::pack::EntriesAsked::asked_bit))]
 fn entries_asked(assignment: &[u8], n: u64) -> Result<(), Refusal>
     requires { 8 * n ≤ length assignment.now }
     ensures { result ≡ below_prime_answer n assignment.now (bits_answer n assignment.now) }
@@ -56,7 +56,6 @@ fn put_packed(assignment: &[u8], wires: u64, out: &mut [u8])
 }
 
 // An assignment for records of so many bits, packed into the front of `out`.
-#[tactic(auto, using(limits::proofs::limit::Tests::length_stands, limits::proofs::limit::Tests::length_range, crate::proofs::pack::PackAnswer::entries_decide), unfolding(crate::specs::Pack::pack_answer))]
 pub fn pack(limit: u64, bits: u64, assignment: &[u8], out: &mut [u8]) -> Result<(), Refusal>
     ensures value { result ≡ pack_answer limit bits assignment.now (length out.old) }
     ensures out_after { out.new ≡ pack_left result bits assignment.now out.old }

@@ -28,7 +28,6 @@ fn put_entries(packed: &[u8], half: usize, out: &mut [u8])
 }
 
 // The entries of packed bytes for records of so many bits, into the front of `out`.
-#[tactic(auto, using(limits::proofs::limit::Tests::length_stands, limits::proofs::limit::Tests::length_range), unfolding(crate::specs::Unpack::unpack_answer))]
 pub fn unpack(limit: u64, bits: u64, packed: &[u8], out: &mut [u8]) -> Result<(), Refusal>
     ensures value { result ≡ unpack_answer limit bits packed.now (length out.old) }
     ensures out_after { out.new ≡ unpack_left result bits packed.now out.old }

@@ -34,6 +34,7 @@ fn pack_row(answer: Result<Counts, Refusal>) -> u64
 
 // The digest of a record of so many bits, into the first 32 bytes of `out`.
 #[unsafe(no_mangle)]
+#[tactic(auto, using(crate::proofs::Small::digest_small))]
 pub extern "C" fn sm3rows_digest(limit: u64, bits: u64, bytes: &[u8], out: &mut [u8]) -> u64
     ensures value { result ≡ packed_outcome (digest_answer limit bits bytes.now (length out.old)) }
     ensures out_after { out.new ≡ digest_left (digest_answer limit bits bytes.now (length out.old)) bits bytes.now out.old }
@@ -43,6 +44,7 @@ pub extern "C" fn sm3rows_digest(limit: u64, bits: u64, bytes: &[u8], out: &mut 
 
 // One row by its number, for a record of so many bits, into the front of `out`.
 #[unsafe(no_mangle)]
+#[tactic(auto, using(crate::proofs::Small::row_small))]
 pub extern "C" fn sm3rows_row(limit: u64, bits: u64, row: u64, out: &mut [u8]) -> u64
     ensures value { result ≡ packed_row (row_answer limit bits row (length out.old)) }
     ensures out_after { out.new ≡ row_left (row_answer limit bits row (length out.old)) bits row out.old }
@@ -52,6 +54,7 @@ pub extern "C" fn sm3rows_row(limit: u64, bits: u64, row: u64, out: &mut [u8]) -
 
 // The whole assignment of a record of so many bits, into the front of `out`.
 #[unsafe(no_mangle)]
+#[tactic(auto, using(crate::proofs::Small::produce_small))]
 pub extern "C" fn sm3rows_produce(limit: u64, bits: u64, bytes: &[u8], out: &mut [u8]) -> u64
     ensures value { result ≡ packed_outcome (produce_answer limit bits bytes.now (length out.old)) }
     ensures out_after { out.new ≡ produce_left (produce_answer limit bits bytes.now (length out.old)) bits bytes.now out.old }
@@ -61,6 +64,7 @@ pub extern "C" fn sm3rows_produce(limit: u64, bits: u64, bytes: &[u8], out: &mut
 
 // The check of an assignment for a record of so many bits against a digest.
 #[unsafe(no_mangle)]
+#[tactic(auto, using(crate::proofs::Small::check_small))]
 pub extern "C" fn sm3rows_check(limit: u64, bits: u64, digest: &[u8], assignment: &[u8]) -> u64
     ensures { result ≡ packed_outcome (check_answer limit bits digest.now assignment.now) }
 {
@@ -69,6 +73,7 @@ pub extern "C" fn sm3rows_check(limit: u64, bits: u64, digest: &[u8], assignment
 
 // An assignment for records of so many bits, packed a bit a wire into the front of `out`.
 #[unsafe(no_mangle)]
+#[tactic(auto, using(crate::proofs::Small::pack_small))]
 pub extern "C" fn sm3rows_pack(limit: u64, bits: u64, assignment: &[u8], out: &mut [u8]) -> u64
     ensures value { result ≡ packed_outcome (pack_answer limit bits assignment.now (length out.old)) }
     ensures out_after { out.new ≡ pack_left (pack_answer limit bits assignment.now (length out.old)) bits assignment.now out.old }
@@ -78,6 +83,7 @@ pub extern "C" fn sm3rows_pack(limit: u64, bits: u64, assignment: &[u8], out: &m
 
 // Packed bytes for records of so many bits as 8-byte entries, into the front of `out`.
 #[unsafe(no_mangle)]
+#[tactic(auto, using(crate::proofs::Small::unpack_small))]
 pub extern "C" fn sm3rows_unpack(limit: u64, bits: u64, packed: &[u8], out: &mut [u8]) -> u64
     ensures value { result ≡ packed_outcome (unpack_answer limit bits packed.now (length out.old)) }
     ensures out_after { out.new ≡ unpack_left (unpack_answer limit bits packed.now (length out.old)) bits packed.now out.old }
@@ -87,6 +93,7 @@ pub extern "C" fn sm3rows_unpack(limit: u64, bits: u64, packed: &[u8], out: &mut
 
 // One row by its number, for axles between two bounds, into the front of `out`.
 #[unsafe(no_mangle)]
+#[tactic(auto, using(crate::proofs::Small::axles_row_small))]
 pub extern "C" fn sm3rows_axles_row(lower: u64, upper: u64, row: u64, out: &mut [u8]) -> u64
     ensures value { result ≡ packed_row (axles_row_answer lower upper row (length out.old)) }
     ensures out_after { out.new ≡ axles_row_left (axles_row_answer lower upper row (length out.old)) lower upper row out.old }
@@ -96,6 +103,7 @@ pub extern "C" fn sm3rows_axles_row(lower: u64, upper: u64, row: u64, out: &mut 
 
 // The whole assignment of a record with axles between two bounds, into the front of `out`.
 #[unsafe(no_mangle)]
+#[tactic(auto, using(crate::proofs::Small::axles_produce_small))]
 pub extern "C" fn sm3rows_axles_produce(lower: u64, upper: u64, bytes: &[u8], out: &mut [u8]) -> u64
     ensures value { result ≡ packed_outcome (axles_produce_answer lower upper bytes.now (length out.old)) }
     ensures out_after { out.new ≡ axles_produce_left (axles_produce_answer lower upper bytes.now (length out.old)) lower upper bytes.now out.old }
@@ -105,6 +113,7 @@ pub extern "C" fn sm3rows_axles_produce(lower: u64, upper: u64, bytes: &[u8], ou
 
 // The check of an assignment for axles between two bounds against a digest.
 #[unsafe(no_mangle)]
+#[tactic(auto, using(crate::proofs::Small::axles_check_small))]
 pub extern "C" fn sm3rows_axles_check(
     lower: u64,
     upper: u64,

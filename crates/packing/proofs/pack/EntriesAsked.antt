@@ -3,7 +3,7 @@
 use Rattle.refusal.specs.declared.outcome.Refusal.{Refusal}
 use Rattle.refusal.specs.declared.numbers.WireNumber.{WireNumber}
 use Rattle.refusal.specs.Refusals.{done}
-use Rattle.std.specs.Prelude.{Ok, None, Option, Err, Some}
+use Rattle.std.specs.Prelude.{None, Option, Err, Some}
 use mathlib.Core.List.{List}
 use mathlib.Core.Logic.{◌↔◌}
 use mathlib.Core.Path.{◌≡◌, ◌∙◌, ap, refl, sym}

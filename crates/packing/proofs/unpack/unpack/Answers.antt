@@ -1,6 +1,5 @@
 -- The tests are the refusals in their order; past them the words' entries are written, and behind them the last one.
 use Rattle.refusal.specs.Refusals.{done}
-use Rattle.std.specs.Prelude.{Ok}
 use mathlib.Core.Path.{◌≡◌, ◌∙◌, ap, refl, subst, sym}
 use Prim.Native.Nat.{ℕ, ◌+◌, ◌-◌, ◌*◌, ◌/◌, ◌%◌, ◌<◌, ◌≤◌}
 use native.Mathlib.Omega.{arith}
@@ -13,12 +12,19 @@ use Rattle.circuit.specs.declared.circuits.Circuit.TheVariants.{Record}
 use Rattle.encoding.specs.Bits.{bit_of_bytes}
 use Rattle.encoding.specs.Packed.{packed_length, spare_bits}
 use Rattle.limits.proofs.limit.Decided.{allowed_range}
-use Rattle.limits.proofs.limit.Tests.{length_before, length_done}
+use Rattle.limits.proofs.limit.Tests.{length_before, length_done, length_stands}
+use Rattle.std.proofs.lemmas.Result.{err_from_is_err_and}
 use Rattle.limits.specs.Limit.{length_answer}
 use Rattle.packing.proofs.WordBytes.{one_over}
 use Rattle.packing.specs.Packed.{unpacked_bytes}
 use Rattle.packing.specs.Unpack.{packed_answer, unpack_answer}
 use Rattle.packing.proofs.unpack.unpack.Goals as goal
+
+pub returns-in_err-ask_length-clause-value : goal.returns-in_err-ask_length-clause-value
+unfolding unpack_answer
+returns-in_err-ask_length-clause-value c =
+    let p = err_from_is_err_and c.from_residual.result c.from_residual.ensures.1 in
+    rw (p.1, p.2) (sym (length_stands _ _ _ _ (sym c.ask_length.ensures ∙ c.in_err-ask_length.was)))
 
 pub wire_count-wires-requires : goal.wire_count-wires-requires
 wire_count-wires-requires c = allowed_range ((length_done _ _).0 (sym c.ask_length.ensures ∙ c.in_ok-ask_length.was)).0
