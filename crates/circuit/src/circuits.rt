@@ -62,7 +62,6 @@ fn free_form(i: u64, b: u64) -> Form
 }
 
 // The form of bit b of block i, one of its message's content: a record's wire is free.
-
 pub fn content_form(circuit: Circuit, i: u64, b: u64) -> Form
     requires { Allowed circuit × (i < block_count circuit) × (b < 512) × (message_bit (message_of circuit i) i b < (message_of circuit i).bits) }
     ensures { (result ≡ content_form circuit i b) × Fit result }
@@ -104,7 +103,7 @@ pub fn appended_rows(circuit: Circuit) -> u64
     }
 }
 
-// Appended row k. A record has none.
+// Appended row k. A record has none, and is not asked for one.
 pub fn appended_form(circuit: Circuit, k: u64) -> Form
     requires { Allowed circuit × (k < appended_rows circuit) }
     ensures { (result ≡ appended_form circuit k) × Fit result }
