@@ -5,4 +5,4 @@ mod Lucas
 mod PowerOrder
 mod Pigeonhole
 mod Power
-mod Split
+mod Whole
