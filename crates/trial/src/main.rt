@@ -35,72 +35,79 @@ ghost use Rattle.limits.specs.Blocks.{most_bits};
 mod changes;
 mod line;
 
-use crate::changes::change_all;
+use crate::changes::Claim;
 use crate::line::show;
 use circuit::circuits::Circuit;
 use circuit::wire::wire_count;
+use console::say_unwritten;
 use encoding::packed::packed_length;
 use limits::handed::ask_record;
 use limits::limit::OUR_LIMIT;
 use record::check::check;
 use record::produce::produce;
-use record::space::assignment_space;
+use record::space::LONGEST_ASSIGNMENT;
 use refusal::outcome::Refusal;
 use sample::counted;
 use sm3::digest::digest;
+use std::io;
+
+// The lengths of the records in bits.
+const LENGTHS: [u64; 6] = [0, 440, 448, 512, 8120, 8127];
 
 // The digest of a record of so many bits and its assignment, and the check of the one against the other.
 fn produce_and_check(bits: u64, bytes: &[u8], sum: &mut [u8], out: &mut [u8]) -> Result<(), Refusal>
     requires { (bits ≤ most_bits) × (length bytes.now ≡ packed_length bits) × (spare_bits bits bytes.now ≡ 0) × (length sum.old ≡ 32) × (8 * wire_count (Record bits) ≤ length out.old) }
     ensures { result ≡ done }
 {
-    digest(OUR_LIMIT, bits, bytes, sum);
-    produce(OUR_LIMIT, bits, bytes, out);
+    digest(OUR_LIMIT, bits, bytes, sum)?;
+    produce(OUR_LIMIT, bits, bytes, out)?;
     let end = (8 * wire_count(Circuit::Record { bits })) as usize;
     check(OUR_LIMIT, bits, sum, &out[..end])
 }
 
 // A record's assignment is produced, checked, and changed.
-fn try_record(rt: &HostRuntime, bits: u64, bytes: &[u8], room: &mut [u8])
+#[tactic(auto, using(crate::proofs::Front::front_length), unfolding(circuit::specs::Wires::wire_count, limits::specs::Blocks::blocks))]
+fn try_record(rt: &HostRuntime, bits: u64, bytes: &[u8], room: &mut [u8]) -> io::Result<()>
     requires { (bits ≤ most_bits) × (length bytes.now ≡ packed_length bits) × (spare_bits bits bytes.now ≡ 0) × (length room.old ≡ 2887688) }
 {
-    let mut sum = [0u8; 32];
-    show(
-        rt,
-        bits,
-        b"produced",
-        produce_and_check(bits, bytes, &mut sum, room),
-    );
+    let mut digest = [0u8; 32];
+    let produced = produce_and_check(bits, bytes, &mut digest, room);
+    show(rt, bits, "produced", produced)?;
     let end = (8 * wire_count(Circuit::Record { bits })) as usize;
-    change_all(rt, bits, sum, &mut room[..end]);
+    let claim = Claim { rt, bits, digest };
+    claim.change_all(&mut room[..end])
 }
 
 // The same for a record as it is handed over; none is refused here.
-fn try_handed(rt: &HostRuntime, bits: u64, bytes: &[u8], room: &mut [u8])
+fn try_handed(rt: &HostRuntime, bits: u64, bytes: &[u8], room: &mut [u8]) -> io::Result<()>
     requires { length room.old ≡ 2887688 }
 {
-    let answer = ask_record(OUR_LIMIT, bits, bytes);
-    match answer {
+    match ask_record(OUR_LIMIT, bits, bytes) {
         Ok(()) => try_record(rt, bits, bytes, room),
-        Err(refusal) => show(rt, bits, b"handed", Err(refusal)),
+        Err(refusal) => show(rt, bits, "handed", Err(refusal)),
     }
 }
 
 // The same for the record of so many bits whose byte k is k mod 251.
-fn try_length(rt: &HostRuntime, bits: u64, room: &mut [u8])
+fn try_length(rt: &HostRuntime, bits: u64, room: &mut [u8]) -> io::Result<()>
     requires { (bits ≤ most_bits) × (length room.old ≡ 2887688) }
 {
     let bytes = counted(bits);
     let end = packed_length(bits) as usize;
-    try_handed(rt, bits, &bytes[..end], room);
+    try_handed(rt, bits, &bytes[..end], room)
+}
+
+// The same for all of the lengths.
+fn try_all(rt: &HostRuntime) -> io::Result<()> {
+    let mut room = [0u8; LONGEST_ASSIGNMENT];
+    for bits in LENGTHS {
+        try_length(rt, bits, &mut room)?;
+    }
+    Ok(())
 }
 
 fn main(rt: HostRuntime) {
-    let mut room = assignment_space();
-    try_length(&rt, 0, &mut room);
-    try_length(&rt, 440, &mut room);
-    try_length(&rt, 448, &mut room);
-    try_length(&rt, 512, &mut room);
-    try_length(&rt, 8120, &mut room);
-    try_length(&rt, 8127, &mut room);
+    if try_all(&rt).is_err() {
+        say_unwritten(&rt);
+    }
 }

@@ -8,5 +8,5 @@ use Rattle.trial.proofs.try_handed.Goals as goal
 pub try_record-requires : goal.try_record-requires
 try_record-requires c =
     let a = c.args in
-    let passed = (handed_done a.bits a.bytes.now our_limit).0 (sym c.ask_record-answer.ensures ∙ c.in-Done.is) in
+    let passed = (handed_done a.bits a.bytes.now our_limit).0 (sym c.ask_record.ensures ∙ c.in-Ok.is) in
     (allowed_range passed.0, passed.1.0, passed.1.1.0, c.requires)
