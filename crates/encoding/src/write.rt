@@ -17,9 +17,9 @@ pub fn put_number(out: &mut [u8], at: usize, n: usize, x: u64)
     ensures { Written at (least_first n x) out.old out.new }
 {
     let mut left = x;
-    for i in 0..n {
-        out[at + i] = (left % 256) as u8;
-        left = left / 256;
+    for byte in out[at..at + n].iter_mut() {
+        *byte = (left % 256) as u8;
+        left /= 256;
     }
 }
 

@@ -13,14 +13,8 @@ pub fn counted(bits: u64) -> [u8; MOST_BYTES]
     requires { bits ≤ most_bits }
     ensures { length result ≡ 1016 }
 {
-    // The first bits of a byte, none to seven.
-    let first = [0u8, 128, 192, 224, 240, 248, 252, 254];
-    let mut bytes = [0u8; MOST_BYTES];
-    for k in 0..MOST_BYTES {
-        bytes[k] = (k % 251) as u8;
-    }
+    let mut bytes: [u8; MOST_BYTES] = std::array::from_fn(|k| (k % 251) as u8);
     let end = (bits / 8) as usize;
-    let used = (bits % 8) as usize;
-    bytes[end] = bytes[end] & first[used];
+    bytes[end] &= !(0xff >> (bits % 8));
     bytes
 }

@@ -1,6 +1,7 @@
 pub mod Bits
 pub mod Bounds
 pub mod Limited
+pub mod RotatedTable
 pub mod Rotation
 pub mod WholeBytes
 pub mod WordBits

@@ -30,6 +30,7 @@ pub fn start_state() -> State
 }
 
 // T of all rounds, rotated: the table that is lent to every round.
+#[tactic(auto, using(crate::proofs::RotatedTable::table))]
 pub fn rotated_constants() -> [u32; 64]
     ensures { result ≡ tab 64 rotated_constant }
 {
@@ -46,6 +47,7 @@ pub fn start_word(k: usize) -> u32
 }
 
 // T of round j, rotated.
+#[tactic(auto, using(crate::proofs::RotatedTable::table_place))]
 pub fn rotated_constant(j: usize) -> u32
     requires { j < 64 }
     ensures { result ≡ rotated_constant j }

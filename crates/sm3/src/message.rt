@@ -44,6 +44,7 @@ fn cut_byte(x: u8, used: u64) -> u8
 }
 
 // Block i of the message, one that the record does not fill, up to the bit length: the end of the record, the bit 1, zeros.
+#[tactic(auto, unfolding(limits::specs::Blocks::blocks))]
 fn ended(bits: u64, bytes: &[u8], i: usize) -> [u8; 64]
     requires { (bits ≤ most_bits) × (length bytes.now ≡ packed_length bits) × (i < blocks bits) × (bits < 512 * i + 512) }
     ensures { result ≡ tab 64 (λ (k : ℕ). ended_byte bits bytes.now (64 * i + k)) }
@@ -68,6 +69,7 @@ fn with_length(b: [u8; 64], bits: u64) -> [u8; 64]
 }
 
 // Block i of the message, one that the record does not fill, as bytes, in the last block with the bit length.
+#[tactic(auto, unfolding(limits::specs::Blocks::blocks))]
 fn padded(bits: u64, bytes: &[u8], i: usize) -> [u8; 64]
     requires { (bits ≤ most_bits) × (length bytes.now ≡ packed_length bits) × (i < blocks bits) × (bits < 512 * i + 512) }
     ensures { (k : ℕ) → k < 512 → bit_of_bytes result k ≡ block_bits (message bits (bit_of_bytes bytes.now)) i k }

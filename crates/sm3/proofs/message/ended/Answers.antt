@@ -1,12 +1,7 @@
 -- The record's last bytes are laid out, none in a block past the record; in any other the byte in which the record ends is cut.
 use Rattle.std.proofs.Common.{◌∙◌, arith}
-use Rattle.limits.specs.Blocks.{blocks}
 use Rattle.sm3.proofs.message.PaddedBlock.{end_cut, past-ended}
 use Rattle.sm3.proofs.message.ended.Goals as goal
-
-pub overflow_mul-at : goal.overflow_mul-at
-unfolding blocks
-overflow_mul-at c = omega arith
 
 pub returns-then-bits-at : goal.returns-then-bits-at
 returns-then-bits-at c =

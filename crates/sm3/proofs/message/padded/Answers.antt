@@ -1,17 +1,8 @@
 -- Up to the bit length the block is the message's; in the last block the length is set behind it.
 use Rattle.std.proofs.Common.{◌∙◌, arith}
-use Rattle.limits.specs.Blocks.{blocks}
 use Rattle.sm3.proofs.message.PaddedBlock.{ended_laid, ended_bytes, last, length-set, not_last, with_length}
 use Rattle.sm3.proofs.message.Padding.{block-bits}
 use Rattle.sm3.proofs.message.padded.Goals as goal
-
-pub overflow_mul-i : goal.overflow_mul-i
-unfolding blocks
-overflow_mul-i c = omega arith
-
-pub overflow_add-i : goal.overflow_add-i
-unfolding blocks
-overflow_add-i c = omega arith
 
 pub returns-then-bits-i : goal.returns-then-bits-i
 returns-then-bits-i c =
