@@ -7,7 +7,7 @@ pub fn packed_length(n: u64) -> u64
     requires { n < 2 ^ 32 }
     ensures { result ≡ packed_length n }
 {
-    (n + 7) / 8
+    n.div_ceil(8)
 }
 
 // The spare bits behind n bits, as a number: the low bits of the last byte.

@@ -63,10 +63,3 @@ impl BitXor for State {
         }
     }
 }
-
-// Two states, word by word.
-pub fn xor_states(s: State, v: State) -> State
-    ensures { result ≡ xor_state s v }
-{
-    s ^ v
-}

@@ -21,6 +21,7 @@ pub fn p0(x: u32) -> u32
 }
 
 // P1, which the expansion applies to q. A rotation by 23 is one by 8 and one by 15, and the last serves both.
+#[tactic(auto, using(crate::proofs::ShortWays::shared), unfolding(crate::specs::Sm3::P1))]
 pub fn p1(x: u32) -> u32
     ensures { result ≡ P1 x }
 {
@@ -28,14 +29,16 @@ pub fn p1(x: u32) -> u32
 }
 
 // FF of the rounds from 16 on: at each place what two or three of the bits are.
-pub fn majority_of(x: u32, y: u32, z: u32) -> u32
+#[tactic(auto, using(crate::proofs::ShortWays::joined))]
+fn majority_of(x: u32, y: u32, z: u32) -> u32
     ensures { result ≡ majority x y z }
 {
     (x & y).wrapping_add((x ^ y) & z)
 }
 
 // GG of the rounds from 16 on: y where x is 1, else z.
-pub fn choice_of(x: u32, y: u32, z: u32) -> u32
+#[tactic(auto, using(crate::proofs::ShortWays::picked))]
+fn choice_of(x: u32, y: u32, z: u32) -> u32
     ensures { result ≡ choice x y z }
 {
     z ^ (x & (y ^ z))
