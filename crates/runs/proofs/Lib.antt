@@ -1,3 +1,4 @@
+pub mod FormRows
 pub mod Holding
 pub mod Judging
 pub mod Reaching

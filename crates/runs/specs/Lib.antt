@@ -1,3 +1,4 @@
+pub mod AtMostOne
 pub mod MessageRows
 pub mod Reached
 pub mod RowsHold

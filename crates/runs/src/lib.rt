@@ -4,5 +4,6 @@
 pub mod appended;
 pub mod block_rows;
 pub mod by_form;
+pub mod candidate;
 pub mod held;
 pub mod message;

@@ -1,16 +1,14 @@
 // The rows of a block's 512 bits: the padding, held against the entries, and the content, judged by its rows' forms.
 ghost use Rattle.std.specs.Prelude.{true, ◌≡◌, ℕ, ◌+◌, ◌-◌, ◌*◌, ◌<◌, ◌≤◌, length};
-ghost use Rattle.assignment.specs.Assignment.{entry};
-ghost use Rattle.assignment.specs.Bounded.{BelowPrime};
 ghost use Rattle.circuit.specs.Circuits.{block_count, message_of};
-ghost use Rattle.circuit.specs.Ranges.{Allowed, OfMessage};
-ghost use Rattle.circuit.specs.Wires.{block_first, wire_count};
+ghost use Rattle.circuit.specs.Ranges.{OfMessage};
+ghost use Rattle.circuit.specs.Wires.{block_first};
 ghost use Rattle.agreement.specs.Agrees.{Bits};
 ghost use Rattle.runs.specs.MessageRows.{ContentHolds, Padded};
 
-use crate::by_form::form_holds;
+use crate::candidate::Candidate;
 use assignment::entry::read;
-use circuit::circuits::{Circuit, content_form, content_is_free};
+use circuit::circuits::{content_form, content_is_free};
 use circuit::frame::block_first;
 use circuit::message::MessageSpan;
 use circuit::step_form::message::padding_bit;
@@ -44,18 +42,20 @@ pub fn padding_agrees(assignment: &[u8], message: MessageSpan, i: u64) -> bool
     true
 }
 
-// Whether the rows of the content's bits in block i are satisfied, where all of them are bits. Where the content is free they are.
-pub fn content_holds(circuit: Circuit, message: MessageSpan, i: u64, assignment: &[u8]) -> bool
-    requires { Allowed circuit × (length assignment.now ≡ 8 * wire_count circuit) × (entry assignment.now 0 ≡ 1) × BelowPrime assignment.now × (i < block_count circuit) × (message ≡ message_of circuit i) × OfMessage message i × Bits (block_first i) 512 assignment.now }
-    ensures { result ≡ true → ContentHolds circuit message i assignment.now }
-{
-    if content_is_free(circuit, i) {
-        return true;
-    }
-    for b in 0..content_bits(message.bits, 512 * (i - message.begin)) {
-        if !form_holds(assignment, content_form(circuit, i, b)) {
-            return false;
+impl Candidate<'_> {
+    // Whether the rows of the content's bits in block i are satisfied, where all of them are bits. Where the content is free they are.
+    pub fn content_holds(&self, message: MessageSpan, i: u64) -> bool
+        requires { (i < block_count self.now.circuit) × (message ≡ message_of self.now.circuit i) × OfMessage message i × Bits (block_first i) 512 self.now.assignment.now }
+        ensures { result ≡ true → ContentHolds self.now.circuit message i self.now.assignment.now }
+    {
+        if content_is_free(self.circuit, i) {
+            return true;
         }
+        for b in 0..content_bits(message.bits, 512 * (i - message.begin)) {
+            if !self.form_holds(content_form(self.circuit, i, b)) {
+                return false;
+            }
+        }
+        true
     }
-    true
 }

@@ -19,8 +19,8 @@ use Rattle.forms.specs.declared.form.Form.{Form}
 use Rattle.runs.proofs.Holding.{hold_none, hold_then}
 use Rattle.runs.proofs.Reaching.{apart_reached}
 use Rattle.runs.specs.RowsHold.{RowsHold}
-use Rattle.runs.proofs.appended.appended_passed.Invariants.{first}
-use Rattle.runs.proofs.appended.appended_passed.Goals as goal
+use Rattle.runs.proofs.candidate.Candidate.appended_passed.Invariants.{first}
+use Rattle.runs.proofs.candidate.Candidate.appended_passed.Goals as goal
 
 -- appended row k holds where its form does
 row-holds : {bytes : List ℕ} (C : Circuit) → Allowed C → (k : ℕ) → k < appended_rows C → {f : Form} → f ≡ appended_form C k
@@ -36,25 +36,23 @@ row-holds {bytes} C allowed k l e holds =
     }
 
 pub appended_rows-rows-requires : goal.appended_rows-rows-requires
-appended_rows-rows-requires c = c.requires.0
+appended_rows-rows-requires c = c.args.self.now.allowed
 
 pub loop-k-init : goal.loop-k-init
 loop-k-init c = (omega arith, hold_none _)
 
 pub appended_form-requires : goal.appended_form-requires
 appended_form-requires c =
-    (c.requires.0, omega (arith, c.loop-k-test.true, c.appended_rows-rows.ensures.0))
+    (c.args.self.now.allowed, omega (arith, c.loop-k-test.true, c.appended_rows-rows.ensures.0))
 
 pub form_holds-requires : goal.form_holds-requires
 form_holds-requires c =
-    let given = c.requires in
-    let C = c.args.circuit in
+    let s = c.args.self.now in
+    let C = s.circuit in
     let form = c.appended_form.ensures in (
-      given.2,
-      given.3,
-      apart_reached (wire_count C) _ c.appended_form.result given.1
+      apart_reached (wire_count C) _ c.appended_form.result s.whole
           (subst (Apart (wire_count C)) (sym form.0)
-          (appended_apart C given.0 _ (omega (arith, c.loop-k-test.true, c.appended_rows-rows.ensures.0)))),
+          (appended_apart C s.allowed _ (omega (arith, c.loop-k-test.true, c.appended_rows-rows.ensures.0)))),
       form.1,
     )
 
@@ -64,10 +62,10 @@ returns-then-not-form_holds c =
 
 pub loop-k-preserved : goal.loop-k-preserved
 loop-k-preserved c =
-    let C = c.args.circuit in (
+    let C = c.args.self.now.circuit in (
       omega (arith, c.loop-k-test.true),
       hold_then (first C) c.loop-k.k 1 c.loop-k.invariant.1
-          (row-holds C c.requires.0 c.loop-k.k (omega (arith, c.loop-k-test.true, c.appended_rows-rows.ensures.0))
+          (row-holds C c.args.self.now.allowed c.loop-k.k (omega (arith, c.loop-k-test.true, c.appended_rows-rows.ensures.0))
           c.appended_form.ensures.0
           (c.form_holds.ensures c.if-not-form_holds.false)),
     )
@@ -76,5 +74,5 @@ pub returns : goal.returns
 returns c =
     let all : c.loop-k.k ≡ c.appended_rows-rows.result = omega (arith, c.loop-k-test.false, c.loop-k.invariant.0) in (
       omega (arith, c.appended_rows-rows.ensures.0),
-      subst (λ n. RowsHold c.args.circuit (first c.args.circuit) n c.args.assignment.now) all c.loop-k.invariant.1,
+      subst (λ n. RowsHold c.args.self.now.circuit (first c.args.self.now.circuit) n c.args.self.now.assignment.now) all c.loop-k.invariant.1,
     )

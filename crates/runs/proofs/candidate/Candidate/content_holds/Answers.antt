@@ -15,9 +15,9 @@ use Rattle.forms.proofs.exact.Forms.{bit-row}
 use Rattle.forms.proofs.shape.Apart.{Apart}
 use Rattle.forms.specs.Rows.{Satisfied, row_of}
 use Rattle.forms.specs.declared.form.Form.{Form}
-use Rattle.runs.proofs.Judging.{judged_bytes}
+use Rattle.runs.proofs.FormRows.{judged}
 use Rattle.runs.proofs.Reaching.{apart_reached}
-use Rattle.runs.proofs.message.content_holds.Goals as goal
+use Rattle.runs.proofs.candidate.Candidate.content_holds.Goals as goal
 
 -- a bit below the first of the padding is one of the content
 in_content : (C : Circuit) (i : ℕ) {m : MessageSpan} {n : ℕ} → m ≡ message_of C i
@@ -34,7 +34,7 @@ same_row : (a : ℕ → ℕ) {f g : Form} → f ≡ g → Satisfied a (row_of f)
 same_row a = subst (λ (f : Form). Satisfied a (row_of f))
 
 pub content_is_free-requires : goal.content_is_free-requires
-content_is_free-requires c = c.requires.0
+content_is_free-requires c = c.args.self.now.allowed
 
 pub returns-then-content_is_free : goal.returns-then-content_is_free
 returns-then-content_is_free c =
@@ -44,14 +44,14 @@ returns-then-content_is_free c =
       each =
           λ b l inside.
           same_row _ (sym (c.content_is_free.ensures c.if-content_is_free.true b))
-          ((bit-row _ (judged_bytes given.2 given.3) _).1 (given.7.each b l));
+          ((bit-row _ (judged c.args.self.now) _).1 (given.3.each b l));
     }
 
 pub overflow_sub-i : goal.overflow_sub-i
-overflow_sub-i c = c.requires.6.from
+overflow_sub-i c = c.requires.2.from
 
 pub overflow_mul-i : goal.overflow_mul-i
-overflow_mul-i c = omega (arith, c.requires.6.few)
+overflow_mul-i c = omega (arith, c.requires.2.few)
 
 pub loop-b-init : goal.loop-b-init
 loop-b-init c = (omega arith, λ k l. absurd (omega arith))
@@ -59,19 +59,17 @@ loop-b-init c = (omega arith, λ k l. absurd (omega arith))
 pub content_form-requires : goal.content_form-requires
 content_form-requires c =
     let given = c.requires in
-    let at = in_content c.args.circuit c.args.i given.5 c.content_bits-b-end.ensures _ c.loop-b-test.true in
-    (given.0, given.4, at.0, at.1)
+    let at = in_content c.args.self.now.circuit c.args.i given.1 c.content_bits-b-end.ensures _ c.loop-b-test.true in
+    (c.args.self.now.allowed, given.0, at.0, at.1)
 
 pub form_holds-requires : goal.form_holds-requires
 form_holds-requires c =
     let given = c.requires in
-    let C = c.args.circuit in
-    let at = in_content C c.args.i given.5 c.content_bits-b-end.ensures _ c.loop-b-test.true in
+    let C = c.args.self.now.circuit in
+    let at = in_content C c.args.i given.1 c.content_bits-b-end.ensures _ c.loop-b-test.true in
     let form = c.content_form.ensures in (
-      given.2,
-      given.3,
-      apart_reached (wire_count C) _ c.content_form.result given.1
-          (subst (Apart (wire_count C)) (sym form.0) (content_apart C given.0 c.args.i _ given.4 at.0 at.1)),
+      apart_reached (wire_count C) _ c.content_form.result c.args.self.now.whole
+          (subst (Apart (wire_count C)) (sym form.0) (content_apart C c.args.self.now.allowed c.args.i _ given.0 at.0 at.1)),
       form.1,
     )
 
@@ -85,7 +83,7 @@ loop-b-preserved c = (
       by_cases (dec_lt k c.loop-b.b) (c.loop-b.invariant.1 k)
       (λ at.
       let same : c.loop-b.b ≡ k = omega arith in
-      same_row _ (c.content_form.ensures.0 ∙ ap (content_form c.args.circuit c.args.i) same)
+      same_row _ (c.content_form.ensures.0 ∙ ap (content_form c.args.self.now.circuit c.args.i) same)
       (c.form_holds.ensures c.if-not-form_holds.false)),
 )
 
