@@ -12,6 +12,7 @@ use circuit::wire::wire_count;
 use encoding::read::bit_at;
 use refusal::numbers::WireNumber;
 use refusal::outcome::Refusal;
+use runs::candidate::Candidate;
 use satisfaction::rows_check::lowest_unsatisfied;
 
 // Whether each digest wire is its bit of the digest.
@@ -47,7 +48,11 @@ pub fn check_circuit(circuit: Circuit, digest: &[u8], assignment: &[u8]) -> Resu
     if !digest_agrees(digest, assignment) {
         return Err(Refusal::DigestWire);
     }
-    match lowest_unsatisfied(circuit, assignment) {
+    let candidate = Candidate {
+        circuit,
+        assignment,
+    };
+    match lowest_unsatisfied(&candidate) {
         None => Ok(()),
         Some(row) => Err(Refusal::Unsatisfied(row)),
     }

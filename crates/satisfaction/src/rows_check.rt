@@ -1,45 +1,40 @@
-// The rows of a circuit, held against an assignment.
-ghost use Rattle.std.specs.Prelude.{◌≡◌, ◌*◌, length};
+// The rows of a circuit, held against an assignment. The rows are the outer loop, the terms of a row the inner one, and a label leaves both at
+// the first row that fails: so the specification has the loop.
+ghost use Rattle.std.specs.Prelude.{◌≡◌};
 ghost use Rattle.assignment.specs.Assignment.{entry};
-ghost use Rattle.assignment.specs.Bounded.{BelowPrime};
 ghost use Rattle.circuit.specs.Circuit.{row_at};
 ghost use Rattle.circuit.specs.Places.{row_count};
-ghost use Rattle.circuit.specs.Ranges.{Allowed};
-ghost use Rattle.circuit.specs.Wires.{wire_count};
 ghost use Rattle.satisfaction.specs.Lowest.{lowest};
 
 use crate::sums::{Sums, add_term, part_product, term_value};
-use circuit::circuits::Circuit;
 use circuit::place::row_count;
 use circuit::row::form_at;
 use forms::buffer::term_at;
 use forms::terms::{TERM_ROOM, fill};
 use refusal::numbers::RowNumber;
-use runs::by_form::form_holds;
-use runs::held::rows_held;
+use runs::candidate::Candidate;
 use sm3::constants::rotated_constants;
 
 // The lowest row of a circuit that is not satisfied, if there is one: the rows outside, the terms of each row inside. Rows that hold by
 // what a run of wires is, or as their form tells, are passed by.
-pub fn lowest_unsatisfied(circuit: Circuit, assignment: &[u8]) -> Option<RowNumber>
-    requires { Allowed circuit × (length assignment.now ≡ 8 * wire_count circuit) × (entry assignment.now 0 ≡ 1) × BelowPrime assignment.now }
-    ensures { result ≡ lowest (entry assignment.now) (row_at circuit) 0 (row_count circuit) }
+pub fn lowest_unsatisfied(candidate: &Candidate) -> Option<RowNumber>
+    ensures { result ≡ lowest (entry candidate.now.assignment.now) (row_at candidate.now.circuit) 0 (row_count candidate.now.circuit) }
 {
     let constants = rotated_constants();
-    let end = row_count(circuit);
+    let end = row_count(candidate.circuit);
     let mut terms = [0u64; TERM_ROOM];
     let mut k = 0;
     'rows: loop {
         if k == end {
             break 'rows None;
         }
-        let held = rows_held(circuit, RowNumber(k), assignment, &constants);
+        let held = candidate.rows_held(RowNumber(k), &constants);
         if 0 < held {
             k += held;
             continue 'rows;
         }
-        let form = form_at(circuit, RowNumber(k));
-        if form_holds(assignment, form) {
+        let form = form_at(candidate.circuit, RowNumber(k));
+        if candidate.form_holds(form) {
             k += 1;
             continue 'rows;
         }
@@ -54,7 +49,12 @@ pub fn lowest_unsatisfied(circuit: Circuit, assignment: &[u8]) -> Option<RowNumb
                 }
                 break;
             }
-            sums = add_term(sums, counts, t, term_value(assignment, term_at(&terms, t)));
+            sums = add_term(
+                sums,
+                counts,
+                t,
+                term_value(candidate.assignment, term_at(&terms, t)),
+            );
             t += 1;
         }
         k += 1;

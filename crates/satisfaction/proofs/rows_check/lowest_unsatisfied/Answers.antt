@@ -23,25 +23,20 @@ use Rattle.satisfaction.specs.Lowest.{lowest}
 use Rattle.satisfaction.proofs.rows_check.lowest_unsatisfied.Goals as goal
 
 pub row_count-end-requires : goal.row_count-end-requires
-row_count-end-requires c = c.requires.0
+row_count-end-requires c = c.args.candidate.now.allowed
 
 pub rows-init : goal.rows-init
 rows-init c = record { within = omega arith; room = refl; lower = ap (lowest _ _ 0) (sym (sub-zero _)) }
 
 pub rows_held-held-requires : goal.rows_held-held-requires
-rows_held-held-requires c =
-    let p = c.requires in (
-      p.0,
-      p.1,
-      p.2,
-      p.3,
-      c.rotated_constants-constants.ensures,
-      row_below c.rows.invariant c.if-k-end.false c.row_count-end.ensures.0,
-    )
+rows_held-held-requires c = (
+  c.rotated_constants-constants.ensures,
+  row_below c.rows.invariant c.if-k-end.false c.row_count-end.ensures.0,
+)
 
 pub overflow_add-k : goal.overflow_add-k
 overflow_add-k c =
-    omega (arith, c.rows_held-held.ensures.0, most_rows_lem c.args.circuit c.requires.0)
+    omega (arith, c.rows_held-held.ensures.0, most_rows_lem c.args.candidate.now.circuit c.args.candidate.now.allowed)
 
 pub rows-smaller-then-held-gt0 : goal.rows-smaller-then-held-gt0
 rows-smaller-then-held-gt0 c = omega (arith, c.if-held-gt0.true, c.rows_held-held.ensures.0)
@@ -54,23 +49,21 @@ rows-preserved-then-held-gt0 c =
 
 pub form_at-form-requires : goal.form_at-form-requires
 form_at-form-requires c =
-    (c.requires.0, row_below c.rows.invariant c.if-k-end.false c.row_count-end.ensures.0)
+    (c.args.candidate.now.allowed, row_below c.rows.invariant c.if-k-end.false c.row_count-end.ensures.0)
 
 pub form_holds-requires : goal.form_holds-requires
 form_holds-requires c =
-    let C = c.args.circuit in
+    let C = c.args.candidate.now.circuit in
     let form = c.form_at-form.ensures in
     let below = row_below c.rows.invariant c.if-k-end.false c.row_count-end.ensures.0 in (
-      c.requires.2,
-      c.requires.3,
-      apart_reached (wire_count C) _ c.form_at-form.result c.requires.1
-          (subst (Apart (wire_count C)) (sym form.0) (row_apart C c.requires.0 _ below)),
+      apart_reached (wire_count C) _ c.form_at-form.result c.args.candidate.now.whole
+          (subst (Apart (wire_count C)) (sym form.0) (row_apart C c.args.candidate.now.allowed _ below)),
       form.1,
     )
 
 pub overflow_add-k-then-form_holds : goal.overflow_add-k-then-form_holds
 overflow_add-k-then-form_holds c =
-    omega (arith, c.rows.invariant.within, most_rows_lem c.args.circuit c.requires.0)
+    omega (arith, c.rows.invariant.within, most_rows_lem c.args.candidate.now.circuit c.args.candidate.now.allowed)
 
 pub rows-smaller-then-form_holds : goal.rows-smaller-then-form_holds
 rows-smaller-then-form_holds c =
@@ -80,7 +73,7 @@ pub rows-preserved-then-form_holds : goal.rows-preserved-then-form_holds
 unfolding row_at
 rows-preserved-then-form_holds c =
     let inv = c.rows.invariant in
-    let bytes = c.args.assignment.now in
+    let bytes = c.args.candidate.now.assignment.now in
     let below = row_below inv c.if-k-end.false c.row_count-end.ensures.0 in
     record {
       within = omega (arith, below);
@@ -122,9 +115,9 @@ pub term_value-requires : goal.term_value-requires
 term_value-requires c =
     let inv = c.rows.invariant in
     let inside = term_within _ _ (filled_as c.form_at-form.ensures.0 c.fill-counts.ensures) inv.room _
-    (omega (arith, c.loop-t.invariant.0, c.if-t-count.false)) c.requires.0
+    (omega (arith, c.loop-t.invariant.0, c.if-t-count.false)) c.args.candidate.now.allowed
     (row_below inv c.if-k-end.false c.row_count-end.ensures.0) c.term_at.ensures in
-    (omega (arith, inside.0, c.requires.1), inside.1, c.requires.3)
+    (omega (arith, inside.0, c.args.candidate.now.whole), inside.1, c.args.candidate.now.below)
 
 pub add_term-sums-requires : goal.add_term-sums-requires
 add_term-sums-requires c =
@@ -142,7 +135,7 @@ loop-t-preserved c =
 
 pub overflow_add-k-in-rows : goal.overflow_add-k-in-rows
 overflow_add-k-in-rows c =
-    omega (arith, c.rows.invariant.within, most_rows_lem c.args.circuit c.requires.0)
+    omega (arith, c.rows.invariant.within, most_rows_lem c.args.candidate.now.circuit c.args.candidate.now.allowed)
 
 pub rows-smaller : goal.rows-smaller
 rows-smaller c =

@@ -12,13 +12,13 @@ use Rattle.satisfaction.proofs.rows_check.lowest_unsatisfied.Given as goal
 
 abbrev pub invariant-loop-t : goal.invariant-loop-t
 invariant-loop-t l =
-    (l.t ≤ l.count) × (l.sums ≡ sums_to (entry l.assignment) (unsorted (form_at l.circuit l.k)) l.t)
+    (l.t ≤ l.count) × (l.sums ≡ sums_to (entry l.candidate.assignment.now) (unsorted (form_at l.candidate.circuit l.k)) l.t)
 
 abbrev pub decreases-loop-t : goal.decreases-loop-t
 decreases-loop-t l = l.count - l.t
 
 abbrev pub invariant-rows : goal.invariant-rows
-invariant-rows l = Turn l.circuit l.assignment l.terms l.k
+invariant-rows l = Turn l.candidate.circuit l.candidate.assignment.now l.terms l.k
 
 abbrev pub decreases-rows : goal.decreases-rows
-decreases-rows l = row_count l.circuit - l.k
+decreases-rows l = row_count l.candidate.circuit - l.k
