@@ -37,11 +37,14 @@ module _ (bytes : List ℕ) (at m : ℕ) (is : m ≡ min at (length bytes)) (sho
       let below : k < 64 = omega (arith, whole) in
       by_cases (dec_lt k n)
       (λ h.
-      get_or-append ys left 0 k (omega arith) ∙ ap (λ (xs : List ℕ). get_or xs k 0) copied ∙ get_or-rest k h)
+      let here : get_or (ys ++ left) k 0 ≡ get_or ys k 0 = get_or-append ys left 0 k (omega arith) in
+      here ∙ ap (λ (xs : List ℕ). get_or xs k 0) copied ∙ get_or-rest k h)
       (λ past.
-      get_or-append_right ys left n k 0 front (omega arith)
-      ∙ get_or-drop (length rest) zs (k - n) 0
-      ∙ ap (λ (xs : List ℕ). get_or xs (length rest + (k - n)) 0) zeros
-      ∙ get_or-tab 64 (λ k. 0) (length rest + (k - n)) 0 (omega (arith, length-rest))
-      ∙ sym (get_or-eq_default bytes 0 (omega arith)))
+      let behind : get_or (ys ++ left) k 0 ≡ get_or left (k - n) 0 = get_or-append_right ys left n k 0 front (omega arith) in
+      let place : get_or left (k - n) 0 ≡ get_or zs (length rest + (k - n)) 0 = get_or-drop (length rest) zs (k - n) 0 in
+      let zero : get_or zs (length rest + (k - n)) 0 ≡ 0 =
+      ap (λ (xs : List ℕ). get_or xs (length rest + (k - n)) 0) zeros
+      ∙ get_or-tab 64 (λ k. 0) (length rest + (k - n)) 0 (omega (arith, length-rest)) in
+      let none : get_or bytes (at + k) 0 ≡ 0 = get_or-eq_default bytes 0 (omega arith) in
+      omega arith)
       ∙ sym (get_or-tab 64 (λ k. get_or bytes (at + k) 0) k 0 below))
