@@ -3,9 +3,9 @@ ghost use Rattle.std.specs.Prelude.{◌≡◌, ℕ, ◌+◌, ◌*◌, ◌≤◌,
 ghost use Rattle.assignment.specs.Values.{IsRound};
 ghost use Rattle.block.specs.BlockWires.{round_wires};
 ghost use Rattle.block.specs.Wires.{round_width};
-ghost use Rattle.encoding.specs.Sequence.{grid, tab};
+ghost use Rattle.encoding.specs.Sequence.{grid};
 ghost use Rattle.agreement.specs.Agrees.{Agrees};
-ghost use Rattle.sm3.specs.Sm3.{w_prime, rotated_constant, rounds};
+ghost use Rattle.sm3.specs.Sm3.{w_prime, rounds};
 ghost use Rattle.sm3.specs.declared.state.State.{State};
 
 use crate::wires::{sum_agrees, word_agrees};
@@ -53,19 +53,13 @@ pub struct RoundsRead {
 }
 
 // How many of the 64 rounds have their wires from w on, from the words v with the expansion x.
-pub fn rounds_agree(
-    assignment: &[u8],
-    w: WireNumber,
-    v: State,
-    x: &[u32; 68],
-    t: &[u32; 64],
-) -> RoundsRead
-    requires { (t.now ≡ tab 64 rotated_constant) × (8 * (w.0 + 64 * round_width) ≤ length assignment.now) }
+pub fn rounds_agree(assignment: &[u8], w: WireNumber, v: State, x: &[u32; 68]) -> RoundsRead
+    requires { 8 * (w.0 + 64 * round_width) ≤ length assignment.now }
     ensures { (result.count ≤ 64) × (result.state ≡ rounds x.now v result.count) × Agrees w.0 (result.count * round_width) (grid round_width (λ (j : ℕ). round_wires x.now j (rounds x.now v j))) assignment.now }
 {
     let mut s = v;
     for j in 0..64 {
-        let r = round_values(s, j, x, t);
+        let r = round_values(s, j, x);
         if !round_agrees(assignment, WireNumber(w.0 + ROUND_WIDTH * j as u64), r) {
             return RoundsRead {
                 count: j as u64,

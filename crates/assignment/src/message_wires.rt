@@ -12,7 +12,7 @@ use crate::block_wires::put_block;
 use block::wire::BLOCK_WIRES;
 use limits::blocks::block_count;
 use refusal::numbers::WireNumber;
-use sm3::constants::{rotated_constants, start_state};
+use sm3::constants::start_state;
 use sm3::message::message_words;
 use sm3::state::State;
 
@@ -24,7 +24,6 @@ pub fn put_message(out: &mut [u8], first: WireNumber, bits: u64, bytes: &[u8]) -
     ensures wrote { Wrote first.0 (wires_per_block * blocks bits) (message_wires (message bits (bit_of_bytes bytes.now))) out.old out.new }
 {
     let n = block_count(bits);
-    let t = rotated_constants();
     let mut v = start_state();
     for i in 0..n {
         v = put_block(
@@ -32,7 +31,6 @@ pub fn put_message(out: &mut [u8], first: WireNumber, bits: u64, bytes: &[u8]) -
             WireNumber(first.0 + BLOCK_WIRES * i),
             v,
             message_words(bits, bytes, i as usize),
-            &t,
         );
     }
     v

@@ -4,9 +4,9 @@ ghost use Rattle.assignment.specs.Sum.{IsSum};
 ghost use Rattle.assignment.specs.Wrote.{Wrote};
 ghost use Rattle.block.specs.BlockWires.{round_wires};
 ghost use Rattle.block.specs.Wires.{round_width};
-ghost use Rattle.encoding.specs.Sequence.{beside, grid, tab};
+ghost use Rattle.encoding.specs.Sequence.{beside, grid};
 ghost use Rattle.forms.specs.WordWires.{sum_wires, word_wires};
-ghost use Rattle.sm3.specs.Sm3.{w_prime, rotated_constant, round_of, rounds};
+ghost use Rattle.sm3.specs.Sm3.{w_prime, round_of, rounds};
 
 use crate::values::{RoundValues, after_round, round_values};
 use crate::wires::{put_sum, put_word};
@@ -39,33 +39,26 @@ fn put_sums(out: &mut [u8], w: WireNumber, r: RoundValues)
 }
 
 // Round j on the 230 wires from w on, and A to H after it.
-fn put_round(
-    out: &mut [u8],
-    w: WireNumber,
-    s: State,
-    j: usize,
-    x: &[u32; 68],
-    t: &[u32; 64],
-) -> State
-    requires { (j < 64) × (t.now ≡ tab 64 rotated_constant) × (8 * (w.0 + round_width) ≤ length out.old) }
+fn put_round(out: &mut [u8], w: WireNumber, s: State, j: usize, x: &[u32; 68]) -> State
+    requires { (j < 64) × (8 * (w.0 + round_width) ≤ length out.old) }
     ensures value { result ≡ round_of j (slice_index x.now j) (w_prime x.now j) s }
     ensures wrote { Wrote w.0 round_width (round_wires x.now j s) out.old out.new }
 {
-    let r = round_values(s, j, x, t);
+    let r = round_values(s, j, x);
     put_summands(out, w, r);
     put_sums(out, w, r);
     after_round(s, r)
 }
 
 // The 64 rounds on the 14,720 wires from w on, from the words v with the expansion x, and A to H after them.
-pub fn put_rounds(out: &mut [u8], w: WireNumber, v: State, x: &[u32; 68], t: &[u32; 64]) -> State
-    requires { (t.now ≡ tab 64 rotated_constant) × (8 * (w.0 + 64 * round_width) ≤ length out.old) }
+pub fn put_rounds(out: &mut [u8], w: WireNumber, v: State, x: &[u32; 68]) -> State
+    requires { 8 * (w.0 + 64 * round_width) ≤ length out.old }
     ensures value { result ≡ rounds x.now v 64 }
     ensures wrote { Wrote w.0 (64 * round_width) (grid round_width (λ (j : ℕ). round_wires x.now j (rounds x.now v j))) out.old out.new }
 {
     let mut s = v;
     for j in 0..64 {
-        s = put_round(out, WireNumber(w.0 + ROUND_WIDTH * j as u64), s, j, x, t);
+        s = put_round(out, WireNumber(w.0 + ROUND_WIDTH * j as u64), s, j, x);
     }
     s
 }

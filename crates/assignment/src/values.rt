@@ -1,10 +1,10 @@
 // What the expansion and the rounds of a block compute, value by value, as the wires of a block have it.
 ghost use Rattle.std.specs.Prelude.{◌≡◌, ℕ, ◌<◌, ◌≤◌, slice_index};
 ghost use Rattle.assignment.specs.Values.{IsExpansion, IsRound};
-ghost use Rattle.encoding.specs.Sequence.{tab};
 ghost use Rattle.sm3.specs.Sm3.{w_prime, rotated_constant, round_of};
 
 use crate::sum::{Sum, add_3, add_4};
+use sm3::constants::rotated_constant;
 use sm3::state::State;
 use sm3::words::{ff, gg, p0, p1, rotate_left};
 
@@ -67,11 +67,11 @@ fn values_of(s: State, j: usize, t: u32, word: u32, primed: u32) -> RoundValues
 }
 
 // Round j on s with the expansion x.
-pub fn round_values(s: State, j: usize, x: &[u32; 68], t: &[u32; 64]) -> RoundValues
-    requires { (j < 64) × (t.now ≡ tab 64 rotated_constant) }
+pub fn round_values(s: State, j: usize, x: &[u32; 68]) -> RoundValues
+    requires { j < 64 }
     ensures { IsRound result j (slice_index x.now j) (w_prime x.now j) s }
 {
-    values_of(s, j, t[j], x[j], x[j] ^ x[j + 4])
+    values_of(s, j, rotated_constant(j), x[j], x[j] ^ x[j + 4])
 }
 
 // A to H after a round on s that computed r.

@@ -4,10 +4,8 @@ ghost use Rattle.block.specs.Steps.{block_rows, computed_rows};
 ghost use Rattle.circuit.specs.Circuits.{block_count};
 ghost use Rattle.circuit.specs.Places.{state_rows};
 ghost use Rattle.circuit.specs.Wires.{block_first};
-ghost use Rattle.encoding.specs.Sequence.{tab};
 ghost use Rattle.agreement.specs.Agrees.{BitsOfWords};
 ghost use Rattle.runs.specs.RowsHold.{RowsHold};
-ghost use Rattle.sm3.specs.Sm3.{rotated_constant};
 
 use crate::candidate::Candidate;
 use crate::message::padding_agrees;
@@ -33,8 +31,8 @@ fn with_room(words: [u32; 16]) -> [u32; 68]
 impl Candidate<'_> {
     // How many rows of block i past those of its bits hold, from the first on, because its wires are what its bits, W0 to W15, and
     // the words that it begins with make them.
-    fn computed_rows_passed(&self, i: u64, words: [u32; 16], t: &[u32; 64]) -> u64
-        requires { (t.now ≡ tab 64 rotated_constant) × (i < block_count self.now.circuit) × BitsOfWords (block_first i) 16 words self.now.assignment.now }
+    fn computed_rows_passed(&self, i: u64, words: [u32; 16]) -> u64
+        requires { (i < block_count self.now.circuit) × BitsOfWords (block_first i) 16 words self.now.assignment.now }
         ensures { (result ≤ computed_rows) × RowsHold self.now.circuit (state_rows + block_rows * i + 512) result self.now.assignment.now }
     {
         let first = block_first(i);
@@ -48,13 +46,13 @@ impl Candidate<'_> {
         if expanded < 52 {
             return EXPANDED_ROWS * expanded;
         }
-        EXPANSION_ROWS + rows_past_expansion(self.assignment, first, v, &x, t)
+        EXPANSION_ROWS + rows_past_expansion(self.assignment, first, v, &x)
     }
 
     // How many rows of block i hold, from the first on, because of what its wires are. The rows of its 512 bits hold where these are
     // bits, the padding among them is the message's, and the content's rows hold.
-    pub fn rows_passed(&self, i: u64, t: &[u32; 64]) -> u64
-        requires { (t.now ≡ tab 64 rotated_constant) × (i < block_count self.now.circuit) }
+    pub fn rows_passed(&self, i: u64) -> u64
+        requires { i < block_count self.now.circuit }
         ensures { (result ≤ block_rows) × RowsHold self.now.circuit (state_rows + block_rows * i) result self.now.assignment.now }
     {
         let Some(words) = read_words::<16>(self.assignment, block_first(i)) else {
@@ -67,6 +65,6 @@ impl Candidate<'_> {
         if !self.content_holds(message, i) {
             return 0;
         }
-        MESSAGE_ROWS + self.computed_rows_passed(i, words, t)
+        MESSAGE_ROWS + self.computed_rows_passed(i, words)
     }
 }

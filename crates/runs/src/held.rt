@@ -6,9 +6,7 @@ ghost use Rattle.block.specs.Wires.{result_at};
 ghost use Rattle.circuit.specs.Circuits.{block_count};
 ghost use Rattle.circuit.specs.Places.{row_count};
 ghost use Rattle.circuit.specs.Wires.{block_first, digest_first};
-ghost use Rattle.encoding.specs.Sequence.{tab};
 ghost use Rattle.runs.specs.RowsHold.{RowsHold};
-ghost use Rattle.sm3.specs.Sm3.{rotated_constant};
 
 use crate::candidate::Candidate;
 use agreement::wires::state_agrees;
@@ -38,8 +36,8 @@ impl Candidate<'_> {
 
     // How many rows from `row` on hold because of what their wires are. Only where a run of rows begins is it asked: at the first start
     // row, the first row of a block, the first of the digest and the first of the appendix.
-    pub fn rows_held(&self, row: RowNumber, constants: &[u32; 64]) -> u64
-        requires { (constants.now ≡ tab 64 rotated_constant) × (row.0 < row_count self.now.circuit) }
+    pub fn rows_held(&self, row: RowNumber) -> u64
+        requires { row.0 < row_count self.now.circuit }
         ensures { (row.0 + result ≤ row_count self.now.circuit) × RowsHold self.now.circuit row.0 result self.now.assignment.now }
     {
         if row.0 == 0 {
@@ -57,7 +55,7 @@ impl Candidate<'_> {
             if row.0 != STATE_ROWS + BLOCK_ROWS * i {
                 return 0;
             }
-            return self.rows_passed(i, constants);
+            return self.rows_passed(i);
         }
         if row.0 == digest {
             if self.digest_is_copied() {

@@ -13,14 +13,12 @@ use forms::buffer::term_at;
 use forms::terms::{TERM_ROOM, fill};
 use refusal::numbers::RowNumber;
 use runs::candidate::Candidate;
-use sm3::constants::rotated_constants;
 
 // The lowest row of a circuit that is not satisfied, if there is one: the rows outside, the terms of each row inside. Rows that hold by
 // what a run of wires is, or as their form tells, are passed by.
 pub fn lowest_unsatisfied(candidate: &Candidate) -> Option<RowNumber>
     ensures { result ≡ lowest (entry candidate.now.assignment.now) (row_at candidate.now.circuit) 0 (row_count candidate.now.circuit) }
 {
-    let constants = rotated_constants();
     let end = row_count(candidate.circuit);
     let mut terms = [0u64; TERM_ROOM];
     let mut k = 0;
@@ -28,7 +26,7 @@ pub fn lowest_unsatisfied(candidate: &Candidate) -> Option<RowNumber>
         if k == end {
             break 'rows None;
         }
-        let held = candidate.rows_held(RowNumber(k), &constants);
+        let held = candidate.rows_held(RowNumber(k));
         if 0 < held {
             k += held;
             continue 'rows;

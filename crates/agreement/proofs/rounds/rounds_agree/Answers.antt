@@ -11,7 +11,7 @@ unfolding rounds
 loop-j-init c = (omega arith, refl, below_none _)
 
 pub round_values-r-requires : goal.round_values-r-requires
-round_values-r-requires c = (omega arith, c.requires.0)
+round_values-r-requires c = omega arith
 
 pub returns-then-not-round_agrees : goal.returns-then-not-round_agrees
 returns-then-not-round_agrees c =

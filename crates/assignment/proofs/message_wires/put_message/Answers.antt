@@ -30,7 +30,7 @@ message_words-requires c = search rules
 
 pub put_block-v-requires : goal.put_block-v-requires
 put_block-v-requires c =
-    (c.rotated_constants-t.ensures, omega (arith, c, c.block_count-n.ensures, length-wrote c.loop-i.invariant.2))
+    omega (arith, c, c.block_count-n.ensures, length-wrote c.loop-i.invariant.2)
 
 pub loop-i-preserved : goal.loop-i-preserved
 unfolding block_bits chaining_value

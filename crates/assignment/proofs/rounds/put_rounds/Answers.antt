@@ -12,7 +12,7 @@ loop-j-init c = (omega arith, refl, wrote_none _ _ _)
 
 pub put_round-s-requires : goal.put_round-s-requires
 put_round-s-requires c =
-    (omega arith, c.requires.0, omega (arith, length-wrote c.loop-j.invariant.2))
+    (omega arith, omega (arith, length-wrote c.loop-j.invariant.2))
 
 pub loop-j-preserved : goal.loop-j-preserved
 loop-j-preserved c =

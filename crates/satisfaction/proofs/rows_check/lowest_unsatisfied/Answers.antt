@@ -29,10 +29,7 @@ pub rows-init : goal.rows-init
 rows-init c = record { within = omega arith; room = refl; lower = ap (lowest _ _ 0) (sym (sub-zero _)) }
 
 pub rows_held-held-requires : goal.rows_held-held-requires
-rows_held-held-requires c = (
-  c.rotated_constants-constants.ensures,
-  row_below c.rows.invariant c.if-k-end.false c.row_count-end.ensures.0,
-)
+rows_held-held-requires c = row_below c.rows.invariant c.if-k-end.false c.row_count-end.ensures.0
 
 pub overflow_add-k : goal.overflow_add-k
 overflow_add-k c =

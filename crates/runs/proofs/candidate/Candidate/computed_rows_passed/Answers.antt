@@ -66,12 +66,12 @@ wires_within C i F bytes l at size = omega arith
 
 pub block_first-first-requires : goal.block_first-first-requires
 block_first-first-requires c =
-    let p = c.requires in omega (arith, few_blocks c.args.self.now.circuit c.args.self.now.allowed, p.1)
+    omega (arith, few_blocks c.args.self.now.circuit c.args.self.now.allowed, c.requires.0)
 
 pub read_state-requires : goal.read_state-requires
 unfolding wire_count
 read_state-requires c =
-    let p = c.requires in omega (arith, c.beginning-begin.ensures.1, c.args.self.now.whole, p.1)
+    let p = c.requires in omega (arith, c.beginning-begin.ensures.1, c.args.self.now.whole, p.0)
 
 pub returns-in_default : goal.returns-in_default
 returns-in_default c = (omega arith, hold_none _)
@@ -79,7 +79,7 @@ returns-in_default c = (omega arith, hold_none _)
 pub expanded_words_agree-expanded-requires : goal.expanded_words_agree-expanded-requires
 expanded_words_agree-expanded-requires c =
     let a = c.args in
-    (omega arith, omega (arith, wires_within a.self.now.circuit a.i _ a.self.now.assignment.now c.requires.1 c.block_first-first.ensures.0 c.args.self.now.whole))
+    (omega arith, omega (arith, wires_within a.self.now.circuit a.i _ a.self.now.assignment.now c.requires.0 c.block_first-first.ensures.0 c.args.self.now.whole))
 
 pub returns-then-expanded-lt52 : goal.returns-then-expanded-lt52
 returns-then-expanded-lt52 c =
@@ -90,14 +90,14 @@ returns-then-expanded-lt52 c =
     let at = c.block_first-first.ensures.0 in
     let told = c.expanded_words_agree-expanded.ensures in (
       omega (arith, told.0),
-      words_hold a.self.now.circuit a.i a.self.now.one a.self.now.below p.1 at from (omega arith) p.2 state told.0
-          (told.1 _ (first_sixteen a.self.now.circuit a.i a.self.now.one a.self.now.below p.1 at from (omega arith) p.2 state _ c.with_room-x.ensures)).1,
+      words_hold a.self.now.circuit a.i a.self.now.one a.self.now.below p.0 at from (omega arith) p.1 state told.0
+          (told.1 _ (first_sixteen a.self.now.circuit a.i a.self.now.one a.self.now.below p.0 at from (omega arith) p.1 state _ c.with_room-x.ensures)).1,
     )
 
 pub rows_past_expansion-requires : goal.rows_past_expansion-requires
 rows_past_expansion-requires c =
     let a = c.args in
-    (c.requires.0, wires_within a.self.now.circuit a.i _ a.self.now.assignment.now c.requires.1 c.block_first-first.ensures.0 c.args.self.now.whole)
+    wires_within a.self.now.circuit a.i _ a.self.now.assignment.now c.requires.0 c.block_first-first.ensures.0 c.args.self.now.whole
 
 pub overflow_add-result : goal.overflow_add-result
 overflow_add-result c = omega (arith, past_few c.rows_past_expansion.ensures)
@@ -110,7 +110,7 @@ returns c =
     let state = c.read_state.ensures _ c.in-Some.is in
     let at = c.block_first-first.ensures.0 in
     let told = c.expanded_words_agree-expanded.ensures in
-    let words = told.1 _ (first_sixteen a.self.now.circuit a.i a.self.now.one a.self.now.below p.1 at from (omega arith) p.2 state _ c.with_room-x.ensures) in
+    let words = told.1 _ (first_sixteen a.self.now.circuit a.i a.self.now.one a.self.now.below p.0 at from (omega arith) p.1 state _ c.with_room-x.ensures) in
     let all : c.expanded_words_agree-expanded.result ≡ 52 = omega (arith, told.0, c.if-expanded-lt52.false) in
     let past = c.rows_past_expansion.ensures in
-    (omega (arith, past_few past), past_hold a.self.now.circuit a.i a.self.now.one a.self.now.below p.1 at from (omega arith) p.2 state told.0 words.1 all (words.0 all) past)
+    (omega (arith, past_few past), past_hold a.self.now.circuit a.i a.self.now.one a.self.now.below p.0 at from (omega arith) p.1 state told.0 words.1 all (words.0 all) past)

@@ -30,21 +30,20 @@ returns-then-state_agrees c = (
 )
 
 pub returns-then-row-eq0 : goal.returns-then-row-eq0
-returns-then-row-eq0 c = (omega (arith, c.requires.1), hold_none _)
+returns-then-row-eq0 c = (omega (arith, c.requires), hold_none _)
 
 pub returns-then-row-lt-STATE_ROWS : goal.returns-then-row-lt-STATE_ROWS
-returns-then-row-lt-STATE_ROWS c = (omega (arith, c.requires.1), hold_none _)
+returns-then-row-lt-STATE_ROWS c = (omega (arith, c.requires), hold_none _)
 
 pub block_count-requires : goal.block_count-requires
 block_count-requires c = c.args.self.now.allowed
 
 pub returns-then-row-i : goal.returns-then-row-i
-returns-then-row-i c = (omega (arith, c.requires.1), hold_none _)
+returns-then-row-i c = (omega (arith, c.requires), hold_none _)
 
 pub rows_passed-requires : goal.rows_passed-requires
 rows_passed-requires c =
-    let p = c.requires in
-    (p.0, omega (arith, c.if-row-digest.true, c.if-row-i.false, c.block_count.ensures.0))
+    omega (arith, c.if-row-digest.true, c.if-row-i.false, c.block_count.ensures.0)
 
 pub returns-then-row-digest : goal.returns-then-row-digest
 unfolding row_count
@@ -66,7 +65,7 @@ returns-then-digest_is_copied c =
     )
 
 pub returns-then-row-digest-2 : goal.returns-then-row-digest-2
-returns-then-row-digest-2 c = (omega (arith, c.requires.1), hold_none _)
+returns-then-row-digest-2 c = (omega (arith, c.requires), hold_none _)
 
 pub returns-then-row-digest-3 : goal.returns-then-row-digest-3
 unfolding row_count
@@ -77,4 +76,4 @@ returns-then-row-digest-3 c =
     (omega (arith, first, passed.0), hold_from _ first passed.1)
 
 pub returns : goal.returns
-returns c = (omega (arith, c.requires.1), hold_none _)
+returns c = (omega (arith, c.requires), hold_none _)

@@ -12,13 +12,13 @@ use Rattle.runs.proofs.candidate.Candidate.rows_passed.Goals as goal
 
 pub block_first-requires : goal.block_first-requires
 block_first-requires c =
-    let p = c.requires in omega (arith, few_blocks c.args.self.now.circuit c.args.self.now.allowed, p.1)
+    let p = c.requires in omega (arith, few_blocks c.args.self.now.circuit c.args.self.now.allowed, p)
 
 pub read_words-requires : goal.read_words-requires
 unfolding wire_count
 read_words-requires c =
     let p = c.requires in
-    omega (arith, c.block_first.ensures.0, c.args.self.now.whole, p.1)
+    omega (arith, c.block_first.ensures.0, c.args.self.now.whole, p)
 
 pub returns-in_default : goal.returns-in_default
 returns-in_default c = (omega arith, hold_none _)
@@ -27,7 +27,7 @@ pub padding_agrees-requires : goal.padding_agrees-requires
 unfolding wire_count
 padding_agrees-requires c =
     let p = c.requires in
-    (c.message_of-message.ensures.1, omega (arith, c.args.self.now.whole, p.1))
+    (c.message_of-message.ensures.1, omega (arith, c.args.self.now.whole, p))
 
 pub returns-then-not-padding_agrees : goal.returns-then-not-padding_agrees
 returns-then-not-padding_agrees c = (omega arith, hold_none _)
@@ -36,7 +36,7 @@ pub content_holds-requires : goal.content_holds-requires
 content_holds-requires c =
     let p = c.requires in
     let words = c.read_words.ensures _ c.in-Some.is in (
-      p.1,
+      p,
       c.message_of-message.ensures.0,
       c.message_of-message.ensures.1,
       record { each = are_bits (words-at c.block_first.ensures.0 words) },
@@ -49,8 +49,7 @@ pub computed_rows_passed-requires : goal.computed_rows_passed-requires
 computed_rows_passed-requires c =
     let p = c.requires in
     let words = c.read_words.ensures _ c.in-Some.is in (
-      p.0,
-      p.1,
+      p,
       words-at c.block_first.ensures.0 words,
     )
 
@@ -60,7 +59,7 @@ returns c =
     let passed = c.computed_rows_passed.ensures in (
       omega (arith, passed.0),
       hold_then (state_rows + block_rows * c.args.i) 512 _
-          (message_passed _ c.args.self.now.one c.args.self.now.below c.args.self.now.circuit c.args.i p.1 _ c.message_of-message.ensures.0
+          (message_passed _ c.args.self.now.one c.args.self.now.below c.args.self.now.circuit c.args.i p _ c.message_of-message.ensures.0
           (c.padding_agrees.ensures c.if-not-padding_agrees.false)
           (c.content_holds.ensures c.if-not-content_holds.false))
           passed.1,
