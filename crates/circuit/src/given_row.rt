@@ -7,7 +7,7 @@ use crate::circuits::Circuit;
 use crate::place::row_count;
 use crate::row::row_terms;
 use forms::term_bytes::put_terms;
-use forms::terms::{Counts, TERM_ROOM};
+use forms::terms::Counts;
 use refusal::numbers::RowNumber;
 use refusal::outcome::Refusal;
 
@@ -15,7 +15,7 @@ use refusal::outcome::Refusal;
 pub const ROW_BYTES: usize = 1956;
 
 // The row of a number, into the front of `out`: the terms of A, then B, then C, and how many each has; or refusal 3 or 4.
-#[tactic(auto, using(crate::proofs::given_row::GivenRows::row_outside, crate::proofs::given_row::GivenRows::room_short), unfolding(crate::specs::GivenRow::given_left))]
+#[tactic(auto, using(crate::proofs::given_row::GivenRows::row_outside, crate::proofs::given_row::GivenRows::room_short, crate::proofs::given_row::GivenRows::row_fits, crate::proofs::given_row::GivenRows::row_residues, crate::proofs::given_row::GivenRows::row_given), unfolding(crate::specs::GivenRow::given_left))]
 pub fn give_row(circuit: Circuit, row: RowNumber, out: &mut [u8]) -> Result<Counts, Refusal>
     requires { Allowed circuit }
     ensures value { result ≡ given_row circuit row.0 (length out.old) }
@@ -29,8 +29,7 @@ pub fn give_row(circuit: Circuit, row: RowNumber, out: &mut [u8]) -> Result<Coun
     if out.len() < ROW_BYTES {
         return Err(Refusal::BufferTooShort);
     }
-    let mut terms = [0u64; TERM_ROOM];
-    let counts = row_terms(circuit, row, &mut terms);
-    put_terms(&terms, counts.a + counts.b + counts.c, out);
-    Ok(counts)
+    let terms = row_terms(circuit, row);
+    put_terms(&terms, out);
+    Ok(terms.counts())
 }

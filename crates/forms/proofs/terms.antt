@@ -1,6 +1,4 @@
 pub mod DifferenceTerms
-pub mod Flat
-pub mod FlatAll
+pub mod Indexed
+pub mod Pushed
 pub mod SumTerms
-pub mod Weights
-pub mod WrittenTerms

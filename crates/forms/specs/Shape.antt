@@ -17,6 +17,10 @@ Pairwise R (x ∷ xs) = All (R x) xs × Pairwise R xs
 abbrev pub Rising : List Term → Type 0
 Rising ts = Pairwise (λ t u. t.wire.0 < u.wire.0) ts
 
+-- the wires of terms differ
+abbrev pub Distinct : List Term → Type 0
+Distinct ts = Pairwise (λ t u. t.wire.0 ≡ u.wire.0 → ⊥) ts
+
 -- "No row has over 163 terms."
 abbrev pub most_terms : ℕ
 most_terms = 163

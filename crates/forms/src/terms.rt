@@ -1,31 +1,30 @@
-// The terms of a row form, in a lent buffer of numbers.
-ghost use Rattle.std.specs.Prelude.{◌≡◌, ℕ, ◌+◌, ◌-◌, ◌*◌, ◌^◌, ◌<◌, ◌≤◌, [], ◌∷◌, ◌++◌, IfSome, length};
-ghost use Rattle.encoding.specs.Sequence.{tab};
-ghost use Rattle.encoding.specs.Written.{Written};
+// The terms of a row form.
+ghost use Rattle.std.specs.Prelude.{◌≡◌, ℕ, ◌+◌, ◌-◌, ◌*◌, ◌^◌, ◌<◌, ◌≤◌, [], ◌∷◌, ◌++◌, IfSome, length, slice_index_or};
 ghost use Rattle.field.specs.Field.{p};
 ghost use Rattle.forms.specs.Bounds.{Small, Within};
-ghost use Rattle.forms.specs.Positions.{at, one};
-ghost use Rattle.forms.specs.Rows.{◌·◌, addend_terms, digit_terms, less, nonzero, number_terms, taken, weighted};
+ghost use Rattle.forms.specs.Rows.{◌·◌, addend_terms, digit_terms, less, nonzero, number_terms, sorted, taken, weighted};
 ghost use Rattle.forms.specs.Rows as rows;
-ghost use Rattle.forms.specs.Shape.{most_terms};
-ghost use Rattle.forms.specs.Terms.{Filled, Fit, FitDifference, flat, term_count, term_room, unsorted};
+ghost use Rattle.forms.specs.Shape.{Distinct, most_terms};
+ghost use Rattle.forms.specs.Terms.{Fit, FitDifference, all_terms, counted, held, unsorted};
+ghost use Rattle.forms.specs.declared.form.Term.{Term};
 ghost use Rattle.forms.specs.declared.form.Form.TheVariants.{Bit, Choice, Difference, Equal, Fixed, Majority, Sum, XorOfThree, XorOfTwo};
 
-use crate::buffer::set_term;
 use crate::form::{Addends, Bound, Digits, Form, Term};
+use crate::part::Part;
 use crate::position::{WordPosition, wire_of_bit, wire_past};
 use field::P;
 use refusal::numbers::WireNumber;
 
-// The numbers that hold any row's terms, two for each of 163.
-pub const TERM_ROOM: usize = 326;
+// No row has more terms.
+pub const MOST_TERMS: usize = 163;
 
-// The weight of a word's highest bit, 2^31, and those of the carries, 2^33 and then 2^32.
-const HIGHEST_WEIGHT: u64 = 2147483648;
-
-const HIGH_CARRY: u64 = 8589934592;
-
-const LOW_CARRY: u64 = 4294967296;
+// The terms of a row. Those of B and C are few.
+#[derive(Drop)]
+pub struct RowTerms {
+    pub a: Part<MOST_TERMS>,
+    pub b: Part<5>,
+    pub c: Part<3>,
+}
 
 // How many terms A, B and C have.
 #[derive(Clone, Copy, Debug, PartialEq, Eq)]
@@ -35,96 +34,88 @@ pub struct Counts {
     pub c: usize,
 }
 
-// Writes a term behind the first n: a wire and the residue of its coefficient.
-fn push(terms: &mut [u64], n: usize, wire: WireNumber, residue: u64)
-    requires { 2 * n + 2 ≤ length terms.old }
-    ensures { Written (2 * n) (flat (residue · wire ∷ [])) terms.old terms.new }
-{
-    set_term(terms, n, Term { wire, residue });
-}
-
-// Writes k times wire 0 behind the first n terms, unless k is 0; how many terms that is.
-fn push_constant(terms: &mut [u64], n: usize, k: u64) -> usize
-    requires { 2 * n + 2 ≤ length terms.old }
-    ensures { (result ≤ 1) × (result ≡ length (nonzero (k · one ∷ []))) × Written (2 * n) (flat (nonzero (k · one ∷ []))) terms.old terms.new }
-{
-    if k == 0 {
-        return 0;
-    }
-    push(terms, n, WireNumber(0), k);
-    1
-}
-
-// Writes three wires with one residue behind the first n terms.
-fn push_three(terms: &mut [u64], n: usize, x: WireNumber, y: WireNumber, z: WireNumber, k: u64)
-    requires { 2 * n + 6 ≤ length terms.old }
-    ensures { Written (2 * n) (flat (k · x ∷ k · y ∷ k · z ∷ [])) terms.old terms.new }
-{
-    push(terms, n, x, k);
-    push(terms, n + 1, y, k);
-    push(terms, n + 2, z, k);
-}
-
-// Writes a word's wires with their weights behind the first n terms.
-fn push_word(terms: &mut [u64], n: usize, x: WordPosition)
-    requires { (2 * n + 64 ≤ length terms.old) × Within x }
-    ensures { Written (2 * n) (flat (weighted x)) terms.old terms.new }
-{
-    let mut weight = HIGHEST_WEIGHT;
-    for i in 0..32 {
-        push(terms, n + i as usize, wire_of_bit(x, i), weight);
-        weight = weight / 2;
-    }
-}
-
-// Takes off the 32 wires of a result from r on, with their weights, behind the first n terms.
-fn push_result(terms: &mut [u64], n: usize, r: WireNumber)
-    requires { (2 * n + 64 ≤ length terms.old) × (r.0 < 1000000) }
-    ensures { Written (2 * n) (flat (tab 32 (λ (i : ℕ). less (2 ^ (31 - i)) · at r i))) terms.old terms.new }
-{
-    let mut weight = HIGHEST_WEIGHT;
-    for i in 0..32 {
-        push(terms, n + i as usize, wire_past(r, i), P - weight);
-        weight = weight / 2;
-    }
-}
-
-// Takes off a result and its carries, which weigh 2^33 and 2^32, behind the first n terms.
-fn push_taken(terms: &mut [u64], n: usize, r: WireNumber)
-    requires { (2 * n + 68 ≤ length terms.old) × (r.0 < 1000000) }
-    ensures { Written (2 * n) (flat (taken r)) terms.old terms.new }
-{
-    push_result(terms, n, r);
-    push(terms, n + 32, wire_past(r, 32), P - HIGH_CARRY);
-    push(terms, n + 33, wire_past(r, 33), P - LOW_CARRY);
-}
-
-// Writes the words that are added up; how many terms that is.
-fn push_addends(terms: &mut [u64], s: Addends) -> usize
-    requires { (256 ≤ length terms.old) × Within s.x × Within s.y × IfSome s.more (λ words. Within words.0 × Within words.1) }
-    ensures { (result ≤ 128) × (result ≡ length (addend_terms s)) × Written 0 (flat (addend_terms s)) terms.old terms.new }
-{
-    let x = s.x;
-    push_word(terms, 0, x);
-    let y = s.y;
-    push_word(terms, 32, y);
-    match s.more {
-        None => 64,
-        Some((z, t)) => {
-            push_word(terms, 64, z);
-            push_word(terms, 96, t);
-            128
+impl RowTerms {
+    // Room for the terms of any row.
+    pub fn new() -> RowTerms
+        ensures { result ≡ record { a = []; b = []; c = [] } }
+    {
+        RowTerms {
+            a: Part::new(),
+            b: Part::new(),
+            c: Part::new(),
         }
     }
+
+    pub fn counts(&self) -> Counts
+        ensures { result ≡ counted self.now }
+    {
+        Counts {
+            a: self.a.len(),
+            b: self.b.len(),
+            c: self.c.len(),
+        }
+    }
+
+    // Term t, counted through A, then B, then C.
+    #[tactic(auto, using(crate::proofs::terms::Indexed::in_first, crate::proofs::terms::Indexed::in_second, crate::proofs::terms::Indexed::in_third))]
+    pub fn term(&self, t: usize) -> Term
+        requires { t < length (all_terms self.now) }
+        ensures { (d : Term) → result ≡ slice_index_or (all_terms self.now) t d }
+    {
+        let a = self.a.as_slice();
+        if t < a.len() {
+            return a[t];
+        }
+        let t = t - a.len();
+        let b = self.b.as_slice();
+        if t < b.len() {
+            return b[t];
+        }
+        self.c.as_slice()[t - b.len()]
+    }
+
+    // Puts the terms of each part in the order of their wires.
+    pub fn sort(&mut self)
+        requires { Distinct self.old.a × Distinct self.old.b × Distinct self.old.c }
+        ensures { self.new ≡ record { a = sorted self.old.a; b = sorted self.old.b; c = sorted self.old.c } }
+    {
+        self.a.sort();
+        self.b.sort();
+        self.c.sort();
+    }
+
+    // Puts these terms, without the zero ones, in place of those that it has.
+    fn set(&mut self, a: &[Term], b: &[Term], c: &[Term])
+        requires { (length a.now ≤ most_terms) × (length b.now ≤ 5) × (length c.now ≤ 3) }
+        ensures { self.new ≡ record { a = nonzero a.now; b = nonzero b.now; c = nonzero c.now } }
+    {
+        self.a.set(a);
+        self.b.set(b);
+        self.c.set(c);
+    }
 }
 
-// Writes the words that are added up and the constant; how many terms that is.
-fn push_summands(terms: &mut [u64], s: Addends, constant: u64) -> usize
-    requires { (term_room ≤ length terms.old) × Within s.x × Within s.y × IfSome s.more (λ words. Within words.0 × Within words.1) }
-    ensures { (result ≤ 129) × (result ≡ length (addend_terms s ++ nonzero (constant · one ∷ []))) × Written 0 (flat (addend_terms s ++ nonzero (constant · one ∷ []))) terms.old terms.new }
+// The weights of a sum's carries, 2^33 and then 2^32.
+const HIGH_CARRY: u64 = 8589934592;
+
+const LOW_CARRY: u64 = 4294967296;
+
+// Wire 0, the constant 1.
+const ONE: WireNumber = WireNumber(0);
+
+// k times a wire.
+fn times(k: u64, wire: WireNumber) -> Term
+    ensures { result ≡ k · wire }
 {
-    let n = push_addends(terms, s);
-    n + push_constant(terms, n, constant)
+    Term { wire, residue: k }
+}
+
+// k times a wire taken off.
+fn minus(k: u64, wire: WireNumber) -> Term
+    requires { k ≤ p }
+    ensures { result ≡ less k · wire }
+{
+    times(P - k, wire)
 }
 
 // k put on, or taken off.
@@ -138,180 +129,179 @@ fn with_sign(plus: bool, k: u64) -> u64
     P - k
 }
 
-// Writes k times the number on `width` wires from w on, put on or taken off, behind the first n terms.
-fn push_number(terms: &mut [u64], n: usize, plus: bool, k: u64, width: u64, w: WireNumber)
-    requires { (2 * (n + width) ≤ length terms.old) × (k ≤ 10) × (width ≤ 7) × Small w.0 }
-    ensures { Written (2 * n) (flat (number_terms plus k width w)) terms.old terms.new }
+// Puts on k times the number on `width` wires from w on, or takes it off.
+fn push_number(part: &mut Part<MOST_TERMS>, plus: bool, k: u64, width: u64, w: WireNumber)
+    requires { (length part.old + width ≤ most_terms) × (k ≤ 10) × (width ≤ 32) × Small w.0 }
+    ensures end { part.new ≡ part.old ++ nonzero (number_terms plus k width w) }
+    ensures room { length part.new ≤ length part.old + width }
 {
     for i in 0..width {
-        let weight = 64 >> (7 - width + i);
-        push(
-            terms,
-            n + i as usize,
-            wire_past(w, i),
-            with_sign(plus, k * weight),
-        );
+        let weight = 1 << (width - 1 - i);
+        part.push(times(with_sign(plus, k * weight), wire_past(w, i)));
     }
 }
 
-// Writes one digit or two, put on or taken off; how many terms that is.
-fn push_digits(terms: &mut [u64], plus: bool, d: Digits) -> usize
-    requires { (16 ≤ length terms.old) × Small d.units.0 × IfSome d.tens (λ w. Small w.0) }
-    ensures { (result ≤ 8) × (result ≡ length (digit_terms plus d)) × Written 0 (flat (digit_terms plus d)) terms.old terms.new }
+// Puts on a word's wires with their weights.
+fn push_word(part: &mut Part<MOST_TERMS>, x: WordPosition)
+    requires { (length part.old + 32 ≤ most_terms) × Within x }
+    ensures end { part.new ≡ part.old ++ nonzero (weighted x) }
+    ensures room { length part.new ≤ length part.old + 32 }
 {
-    let units = d.units;
-    push_number(terms, 0, plus, 1, 4, units);
-    match d.tens {
-        None => 4,
-        Some(tens) => {
-            push_number(terms, 4, plus, 10, 4, tens);
-            8
-        }
+    for i in 0..32 {
+        part.push(times(1 << (31 - i), wire_of_bit(x, i)));
+    }
+}
+
+// Puts on the words that are added up.
+#[tactic(auto, using(crate::proofs::terms::Pushed::two_pushed))]
+fn push_addends(part: &mut Part<MOST_TERMS>, s: Addends)
+    requires { (length part.old + 128 ≤ most_terms) × Within s.x × Within s.y × IfSome s.more (λ words. Within words.0 × Within words.1) }
+    ensures end { part.new ≡ part.old ++ nonzero (addend_terms s) }
+    ensures room { length part.new ≤ length part.old + 128 }
+{
+    push_word(part, s.x);
+    push_word(part, s.y);
+    if let Some((z, t)) = s.more {
+        push_word(part, z);
+        push_word(part, t);
+    }
+}
+
+// Takes off a result, whose 32 wires begin at r, and its carries, which weigh 2^33 and 2^32.
+#[tactic(auto, using(crate::proofs::terms::Pushed::taken_pushed))]
+fn push_taken(part: &mut Part<MOST_TERMS>, r: WireNumber)
+    requires { (length part.old + 34 ≤ most_terms) × Small r.0 }
+    ensures end { part.new ≡ part.old ++ nonzero (taken r) }
+    ensures room { length part.new ≤ length part.old + 34 }
+{
+    push_number(part, false, 1, 32, r);
+    part.push(minus(HIGH_CARRY, wire_past(r, 32)));
+    part.push(minus(LOW_CARRY, wire_past(r, 33)));
+}
+
+// Puts on one digit or two, or takes them off.
+#[tactic(auto, using(crate::proofs::terms::Pushed::one_digit))]
+fn push_digits(part: &mut Part<MOST_TERMS>, plus: bool, d: Digits)
+    requires { (length part.old + 8 ≤ most_terms) × Small d.units.0 × IfSome d.tens (λ w. Small w.0) }
+    ensures end { part.new ≡ part.old ++ nonzero (digit_terms plus d) }
+    ensures room { length part.new ≤ length part.old + 8 }
+{
+    push_number(part, plus, 1, 4, d.units);
+    if let Some(tens) = d.tens {
+        push_number(part, plus, 10, 4, tens);
     }
 }
 
 // w × 1 = bit
-fn fill_fixed(terms: &mut [u64], w: WireNumber, bit: u64) -> Counts
-    requires { term_room ≤ length terms.old }
-    ensures { Filled (unsorted (Fixed w bit)) result terms.old terms.new }
+#[tactic(auto, unfolding(crate::specs::Rows::letters, crate::specs::Terms::unsorted))]
+fn fill_fixed(terms: &mut RowTerms, w: WireNumber, bit: u64)
+    ensures { terms.new ≡ held (unsorted (Fixed w bit)) }
 {
-    push(terms, 0, w, 1);
-    push(terms, 1, WireNumber(0), 1);
-    let c = push_constant(terms, 2, bit);
-    Counts { a: 1, b: 1, c }
+    terms.set(&[times(1, w)], &[times(1, ONE)], &[times(bit, ONE)]);
 }
 
 // w × (w - 1) = 0
-fn fill_bit(terms: &mut [u64], w: WireNumber) -> Counts
-    requires { term_room ≤ length terms.old }
-    ensures { Filled (unsorted (Bit w)) result terms.old terms.new }
+#[tactic(auto, unfolding(crate::specs::Rows::letters, crate::specs::Terms::unsorted))]
+fn fill_bit(terms: &mut RowTerms, w: WireNumber)
+    ensures { terms.new ≡ held (unsorted (Bit w)) }
 {
-    push(terms, 0, w, 1);
-    push(terms, 1, w, 1);
-    push(terms, 2, WireNumber(0), P - 1);
-    Counts { a: 1, b: 2, c: 0 }
+    terms.set(&[times(1, w)], &[times(1, w), minus(1, ONE)], &[]);
 }
 
 // 2x × y = x + y - r
-fn fill_xor_of_two(terms: &mut [u64], x: WireNumber, y: WireNumber, r: WireNumber) -> Counts
-    requires { term_room ≤ length terms.old }
-    ensures { Filled (unsorted (XorOfTwo x y r)) result terms.old terms.new }
+#[tactic(auto, unfolding(crate::specs::Rows::letters, crate::specs::Terms::unsorted))]
+fn fill_xor_of_two(terms: &mut RowTerms, x: WireNumber, y: WireNumber, r: WireNumber)
+    ensures { terms.new ≡ held (unsorted (XorOfTwo x y r)) }
 {
-    push(terms, 0, x, 2);
-    push(terms, 1, y, 1);
-    push(terms, 2, x, 1);
-    push(terms, 3, y, 1);
-    push(terms, 4, r, P - 1);
-    Counts { a: 1, b: 1, c: 3 }
+    let sum = [times(1, x), times(1, y), minus(1, r)];
+    terms.set(&[times(2, x)], &[times(1, y)], &sum);
 }
 
 // (x + y + z - r) × (x + y + z - r - 2) = 0
+#[tactic(auto, unfolding(crate::specs::Rows::letters, crate::specs::Terms::unsorted))]
 fn fill_xor_of_three(
-    terms: &mut [u64],
+    terms: &mut RowTerms,
     x: WireNumber,
     y: WireNumber,
     z: WireNumber,
     r: WireNumber,
-) -> Counts
-    requires { term_room ≤ length terms.old }
-    ensures { Filled (unsorted (XorOfThree x y z r)) result terms.old terms.new }
+)
+    ensures { terms.new ≡ held (unsorted (XorOfThree x y z r)) }
 {
-    push_three(terms, 0, x, y, z, 1);
-    push(terms, 3, r, P - 1);
-    push_three(terms, 4, x, y, z, 1);
-    push(terms, 7, r, P - 1);
-    push(terms, 8, WireNumber(0), P - 2);
-    Counts { a: 4, b: 5, c: 0 }
+    let (x, y, z, r) = (times(1, x), times(1, y), times(1, z), minus(1, r));
+    terms.set(&[x, y, z, r], &[x, y, z, r, minus(2, ONE)], &[]);
 }
 
 // (x + y + z - 2r) × (1 - x - y - z + 2r) = 0
-fn fill_majority(
-    terms: &mut [u64],
-    x: WireNumber,
-    y: WireNumber,
-    z: WireNumber,
-    r: WireNumber,
-) -> Counts
-    requires { term_room ≤ length terms.old }
-    ensures { Filled (unsorted (Majority x y z r)) result terms.old terms.new }
+#[tactic(auto, unfolding(crate::specs::Rows::letters, crate::specs::Terms::unsorted))]
+fn fill_majority(terms: &mut RowTerms, x: WireNumber, y: WireNumber, z: WireNumber, r: WireNumber)
+    ensures { terms.new ≡ held (unsorted (Majority x y z r)) }
 {
-    push_three(terms, 0, x, y, z, 1);
-    push(terms, 3, r, P - 2);
-    push(terms, 4, WireNumber(0), 1);
-    push_three(terms, 5, x, y, z, P - 1);
-    push(terms, 8, r, 2);
-    Counts { a: 4, b: 5, c: 0 }
+    let a = [times(1, x), times(1, y), times(1, z), minus(2, r)];
+    let b = [
+        times(1, ONE),
+        minus(1, x),
+        minus(1, y),
+        minus(1, z),
+        times(2, r),
+    ];
+    terms.set(&a, &b, &[]);
 }
 
 // x × (y - z) = r - z
-fn fill_choice(
-    terms: &mut [u64],
-    x: WireNumber,
-    y: WireNumber,
-    z: WireNumber,
-    r: WireNumber,
-) -> Counts
-    requires { term_room ≤ length terms.old }
-    ensures { Filled (unsorted (Choice x y z r)) result terms.old terms.new }
+#[tactic(auto, unfolding(crate::specs::Rows::letters, crate::specs::Terms::unsorted))]
+fn fill_choice(terms: &mut RowTerms, x: WireNumber, y: WireNumber, z: WireNumber, r: WireNumber)
+    ensures { terms.new ≡ held (unsorted (Choice x y z r)) }
 {
-    push(terms, 0, x, 1);
-    push(terms, 1, y, 1);
-    push(terms, 2, z, P - 1);
-    push(terms, 3, r, 1);
-    push(terms, 4, z, P - 1);
-    Counts { a: 1, b: 2, c: 2 }
+    let less_z = minus(1, z);
+    terms.set(
+        &[times(1, x)],
+        &[times(1, y), less_z],
+        &[times(1, r), less_z],
+    );
 }
 
 // (addends + constant - result - carries) × 1 = 0
-fn fill_sum(terms: &mut [u64], addends: Addends, constant: u64, r: WireNumber) -> Counts
-    requires { (term_room ≤ length terms.old) × Fit (Sum addends constant r) × (term_count (Sum addends constant r) ≤ most_terms) }
-    ensures { Filled (unsorted (Sum addends constant r)) result terms.old terms.new }
+#[tactic(auto, using(crate::proofs::terms::Pushed::three_pushed), unfolding(crate::specs::Rows::letters, crate::specs::Rows::nonzero, crate::specs::Terms::unsorted))]
+fn fill_sum(terms: &mut RowTerms, addends: Addends, constant: u64, r: WireNumber)
+    requires { Fit (Sum addends constant r) }
+    ensures { terms.new ≡ held (unsorted (Sum addends constant r)) }
 {
-    let n = push_summands(terms, addends, constant);
-    push_taken(terms, n, r);
-    push(terms, n + 34, WireNumber(0), 1);
-    Counts {
-        a: n + 34,
-        b: 1,
-        c: 0,
-    }
+    terms.a.clear();
+    push_addends(&mut terms.a, addends);
+    terms.a.push(times(constant, ONE));
+    push_taken(&mut terms.a, r);
+    terms.b.set(&[times(1, ONE)]);
+    terms.c.clear();
 }
 
 // (x - y) × 1 = 0
-fn fill_equal(terms: &mut [u64], x: WireNumber, y: WireNumber) -> Counts
-    requires { term_room ≤ length terms.old }
-    ensures { Filled (unsorted (Equal x y)) result terms.old terms.new }
+#[tactic(auto, unfolding(crate::specs::Rows::letters, crate::specs::Terms::unsorted))]
+fn fill_equal(terms: &mut RowTerms, x: WireNumber, y: WireNumber)
+    ensures { terms.new ≡ held (unsorted (Equal x y)) }
 {
-    push(terms, 0, x, 1);
-    push(terms, 1, y, P - 1);
-    push(terms, 2, WireNumber(0), 1);
-    Counts { a: 2, b: 1, c: 0 }
+    terms.set(&[times(1, x), minus(1, y)], &[times(1, ONE)], &[]);
 }
 
 // (digits - bound - bits) × 1 = 0, or (bound - digits - bits) × 1 = 0
-fn fill_difference(
-    terms: &mut [u64],
-    digits: Digits,
-    bound: Bound,
-    width: u64,
-    r: WireNumber,
-) -> Counts
-    requires { (term_room ≤ length terms.old) × FitDifference digits bound width r }
-    ensures { Filled (unsorted (Difference digits bound width r)) result terms.old terms.new }
+#[tactic(auto, using(crate::proofs::terms::Pushed::three_pushed), unfolding(crate::specs::Rows::letters, crate::specs::Rows::nonzero, crate::specs::Terms::unsorted))]
+fn fill_difference(terms: &mut RowTerms, digits: Digits, bound: Bound, width: u64, r: WireNumber)
+    requires { FitDifference digits bound width r }
+    ensures { terms.new ≡ held (unsorted (Difference digits bound width r)) }
 {
     let lower = bound.is_lower();
-    let n = push_digits(terms, lower, digits);
-    push(terms, n, WireNumber(0), with_sign(!lower, bound.value()));
-    push_number(terms, n + 1, false, 1, width, r);
-    let a = n + 1 + width as usize;
-    push(terms, a, WireNumber(0), 1);
-    Counts { a, b: 1, c: 0 }
+    terms.a.clear();
+    push_digits(&mut terms.a, lower, digits);
+    terms.a.push(times(with_sign(!lower, bound.value()), ONE));
+    push_number(&mut terms.a, false, 1, width, r);
+    terms.b.set(&[times(1, ONE)]);
+    terms.c.clear();
 }
 
-// The terms of a form: those of A, then B, then C, each in the order of the equation, without zero ones.
-pub fn fill(form: Form, terms: &mut [u64]) -> Counts
-    requires { (term_room ≤ length terms.old) × Fit form × (term_count form ≤ most_terms) }
-    ensures { Filled (unsorted form) result terms.old terms.new }
+// The terms of a form, in the order of the equation.
+pub fn fill(form: Form, terms: &mut RowTerms)
+    requires { Fit form }
+    ensures { terms.new ≡ held (unsorted form) }
 {
     match form {
         Form::Fixed { w, bit } => fill_fixed(terms, w, bit),

@@ -1,7 +1,7 @@
 pub mod AllPrinted
 pub mod AxleLineRight
 pub mod Chunks
-pub mod HeldLines
+pub mod PartLines
 pub mod LineRight
 pub mod Lines
 pub mod Requests

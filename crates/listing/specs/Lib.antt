@@ -1,5 +1,4 @@
 pub mod AxleLine
-pub mod Held
 pub mod Line
 pub mod Listing
 pub mod Progress

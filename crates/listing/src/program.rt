@@ -3,7 +3,6 @@
 use crate::progress::{Listing, begin, next_chunk};
 use crate::request::Front;
 use console::{print, read_input};
-use forms::terms::TERM_ROOM;
 use std::io;
 
 // Prints what a line asks for, chunk after chunk.
@@ -14,10 +13,9 @@ pub fn print_listing(
     line: &[u8],
 ) -> io::Result<()> {
     let mut out = [0u8; 65536];
-    let mut terms = [0u64; TERM_ROOM];
     let mut progress = Some(begin(front, line));
     while let Some(now) = progress {
-        let chunk = next_chunk(listing, now, &mut out, &mut terms);
+        let chunk = next_chunk(listing, now, &mut out);
         print(rt, &out[..chunk.bytes])?;
         progress = chunk.next;
     }

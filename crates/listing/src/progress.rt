@@ -2,7 +2,6 @@
 ghost use Rattle.std.specs.Prelude.{Some, ◌≡◌, ◌+◌, ◌<◌, ◌≤◌, length};
 ghost use Rattle.circuit.specs.Places.{row_count};
 ghost use Rattle.circuit.specs.Ranges.{Allowed};
-ghost use Rattle.forms.specs.Terms.{term_room};
 ghost use Rattle.listing.specs.Listing.{header, lines};
 ghost use Rattle.listing.specs.Progress.{Handed, IfPossible, Possible, RowsExist, room};
 ghost use Rattle.listing.specs.Request.{request_of};
@@ -71,20 +70,13 @@ fn put_header(listing: Listing, out: &mut [u8]) -> usize
     }
 }
 
-// The lines of a row. `terms` is room for its terms.
-fn put_lines(
-    listing: Listing,
-    out: &mut [u8],
-    at: usize,
-    circuit: Circuit,
-    row: RowNumber,
-    terms: &mut [u64],
-) -> usize
-    requires { (at + room listing ≤ length out.old) × Allowed circuit × (row.0 < row_count circuit) × (term_room ≤ length terms.old) }
+// The lines of a row.
+fn put_lines(listing: Listing, out: &mut [u8], at: usize, circuit: Circuit, row: RowNumber) -> usize
+    requires { (at + room listing ≤ length out.old) × Allowed circuit × (row.0 < row_count circuit) }
     ensures { Put out.old at (lines listing circuit row.0) out.new result × (result ≤ at + room listing) }
 {
     match listing {
-        Listing::Rows => put_row(out, at, circuit, row, terms),
+        Listing::Rows => put_row(out, at, circuit, row),
         Listing::Steps => put_step_line(out, at, circuit, row),
     }
 }
@@ -107,8 +99,8 @@ fn first_chunk(listing: Listing, request: Result<Rows, LineRefusal>, out: &mut [
 }
 
 // The lines of rows, all or as many as the buffer holds.
-fn fill(listing: Listing, rows: Rows, out: &mut [u8], terms: &mut [u64]) -> Chunk
-    requires { (room listing ≤ length out.old) × RowsExist rows × (term_room ≤ length terms.old) }
+fn fill(listing: Listing, rows: Rows, out: &mut [u8]) -> Chunk
+    requires { (room listing ≤ length out.old) × RowsExist rows }
     ensures { Handed listing (Progress.Lines rows) out.old out.new result }
 {
     let end = rows.first.0 + rows.many;
@@ -125,7 +117,7 @@ fn fill(listing: Listing, rows: Rows, out: &mut [u8], terms: &mut [u64]) -> Chun
                 next: Some(Progress::Lines(left)),
             };
         }
-        at = put_lines(listing, out, at, rows.circuit, RowNumber(k), terms);
+        at = put_lines(listing, out, at, rows.circuit, RowNumber(k));
     }
     Chunk {
         bytes: at,
@@ -133,13 +125,13 @@ fn fill(listing: Listing, rows: Rows, out: &mut [u8], terms: &mut [u64]) -> Chun
     }
 }
 
-// The next chunk, at the front of `out`. `terms` is room for the terms of a row.
-pub fn next_chunk(listing: Listing, progress: Progress, out: &mut [u8], terms: &mut [u64]) -> Chunk
-    requires { (room listing ≤ length out.old) × Possible progress × (term_room ≤ length terms.old) }
+// The next chunk, at the front of `out`.
+pub fn next_chunk(listing: Listing, progress: Progress, out: &mut [u8]) -> Chunk
+    requires { (room listing ≤ length out.old) × Possible progress }
     ensures { Handed listing progress out.old out.new result × IfPossible result.next }
 {
     match progress {
         Progress::Begun(request) => first_chunk(listing, request, out),
-        Progress::Lines(rows) => fill(listing, rows, out, terms),
+        Progress::Lines(rows) => fill(listing, rows, out),
     }
 }

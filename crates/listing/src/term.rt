@@ -1,19 +1,17 @@
 // The lines of a row's terms: `row,part,wire,coefficient`.
-ghost use Rattle.std.specs.Prelude.{ℕ, ◌+◌, ◌*◌, ◌<◌, ◌≤◌, length};
+ghost use Rattle.std.specs.Prelude.{◌+◌, ◌*◌, ◌<◌, ◌≤◌, length};
 ghost use Rattle.circuit.specs.Places.{row_count};
 ghost use Rattle.circuit.specs.Ranges.{Allowed};
 ghost use Rattle.field.specs.Field.{p};
 ghost use Rattle.forms.specs.Coefficients.{signed};
-ghost use Rattle.forms.specs.Terms.{term_at, term_room};
-ghost use Rattle.listing.specs.Held.{held_lines};
-ghost use Rattle.listing.specs.Rows.{line_room, row_lines, row_room, term_line};
+ghost use Rattle.forms.specs.Shape.{All};
+ghost use Rattle.listing.specs.Rows.{line_room, part_lines, row_lines, row_room, term_line};
 ghost use Rattle.text.specs.Decimal.{signed_field};
 ghost use Rattle.text.specs.Put.{Put};
 ghost use Rattle.text.specs.Text.{line_feed};
 
 use circuit::circuits::Circuit;
 use circuit::row::row_terms;
-use forms::buffer::term_at;
 use forms::coefficient::coefficient_of;
 use forms::form::Term;
 use refusal::numbers::RowNumber;
@@ -49,39 +47,25 @@ pub fn put_term_line(out: &mut [u8], at: usize, row: RowNumber, part: u8, term: 
     put_coefficient(out, b, term.residue)
 }
 
-// The lines of a part of so many terms, which `terms` holds from its term `from` on.
-fn put_part(
-    out: &mut [u8],
-    at: usize,
-    row: RowNumber,
-    part: u8,
-    terms: &[u64],
-    from: usize,
-    many: usize,
-) -> usize
-    requires { (at + line_room * many ≤ length out.old) × (2 * (from + many) ≤ length terms.now) × ((t : ℕ) → t < from + many → (term_at terms.now t).residue < p) }
-    ensures { Put out.old at (held_lines row.0 part terms.now from many) out.new result × (result ≤ at + line_room * many) }
+// The lines of a part.
+fn put_part(out: &mut [u8], at: usize, row: RowNumber, part: u8, terms: &[Term]) -> usize
+    requires { (at + line_room * length terms.now ≤ length out.old) × All (λ t. t.residue < p) terms.now }
+    ensures { Put out.old at (part_lines row.0 part terms.now) out.new result × (result ≤ at + line_room * length terms.now) }
 {
     let mut end = at;
-    for i in 0..many {
-        end = put_term_line(out, end, row, part, term_at(terms, from + i));
+    for term in terms {
+        end = put_term_line(out, end, row, part, *term);
     }
     end
 }
 
-// The lines of a row of a circuit. `terms` is room for its terms.
-pub fn put_row(
-    out: &mut [u8],
-    at: usize,
-    circuit: Circuit,
-    row: RowNumber,
-    terms: &mut [u64],
-) -> usize
-    requires { (at + row_room ≤ length out.old) × Allowed circuit × (row.0 < row_count circuit) × (term_room ≤ length terms.old) }
+// The lines of a row of a circuit.
+pub fn put_row(out: &mut [u8], at: usize, circuit: Circuit, row: RowNumber) -> usize
+    requires { (at + row_room ≤ length out.old) × Allowed circuit × (row.0 < row_count circuit) }
     ensures { Put out.old at (row_lines circuit row.0) out.new result × (result ≤ at + row_room) }
 {
-    let counts = row_terms(circuit, row, terms);
-    let a = put_part(out, at, row, b'A', terms, 0, counts.a);
-    let b = put_part(out, a, row, b'B', terms, counts.a, counts.b);
-    put_part(out, b, row, b'C', terms, counts.a + counts.b, counts.c)
+    let terms = row_terms(circuit, row);
+    let a = put_part(out, at, row, b'A', terms.a.as_slice());
+    let b = put_part(out, a, row, b'B', terms.b.as_slice());
+    put_part(out, b, row, b'C', terms.c.as_slice())
 }

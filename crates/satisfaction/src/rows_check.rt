@@ -9,8 +9,7 @@ ghost use Rattle.satisfaction.specs.Lowest.{lowest};
 use crate::sums::{Sums, add_term, part_product, term_value};
 use circuit::place::row_count;
 use circuit::row::form_at;
-use forms::buffer::term_at;
-use forms::terms::{TERM_ROOM, fill};
+use forms::terms::{RowTerms, fill};
 use refusal::numbers::RowNumber;
 use runs::candidate::Candidate;
 
@@ -20,7 +19,7 @@ pub fn lowest_unsatisfied(candidate: &Candidate) -> Option<RowNumber>
     ensures { result ≡ lowest (entry candidate.now.assignment.now) (row_at candidate.now.circuit) 0 (row_count candidate.now.circuit) }
 {
     let end = row_count(candidate.circuit);
-    let mut terms = [0u64; TERM_ROOM];
+    let mut terms = RowTerms::new();
     let mut k = 0;
     'rows: loop {
         if k == end {
@@ -36,7 +35,8 @@ pub fn lowest_unsatisfied(candidate: &Candidate) -> Option<RowNumber>
             k += 1;
             continue 'rows;
         }
-        let counts = fill(form, &mut terms);
+        fill(form, &mut terms);
+        let counts = terms.counts();
         let count = counts.a + counts.b + counts.c;
         let mut sums = Sums { a: 0, b: 0, c: 0 };
         let mut t = 0;
@@ -51,7 +51,7 @@ pub fn lowest_unsatisfied(candidate: &Candidate) -> Option<RowNumber>
                 sums,
                 counts,
                 t,
-                term_value(candidate.assignment, term_at(&terms, t)),
+                term_value(candidate.assignment, terms.term(t)),
             );
             t += 1;
         }

@@ -1,6 +1,6 @@
 -- What holds of each one of a list, or of each one and every one after it, holds of the parts that the list is put together
 -- from, and the other way round. By induction along the list.
-use Rattle.std.proofs.Common.{◌≡◌, ℕ, zero, suc, ◌<◌, Bool, true, false, cond, List, [], ◌∷◌, ◌++◌, refl, arith}
+use Rattle.std.proofs.Common.{◌≡◌, ℕ, zero, suc, ◌<◌, Bool, true, false, cond, List, [], ◌∷◌, ◌++◌, length, get_or, refl, arith}
 use Rattle.encoding.specs.Sequence.{tab}
 use Rattle.forms.specs.Shape.{All, Pairwise}
 
@@ -22,6 +22,19 @@ module _ {A : Type 0} (P : A → Type 0) where
   pub all_append : (xs ys : List A) → All P xs → All P ys → All P (xs ++ ys)
   all_append [] ys a b = b
   all_append (x ∷ xs) ys a b = (a.0, all_append xs ys a.1 b)
+
+  pub all_front : (xs ys : List A) → All P (xs ++ ys) → All P xs
+  all_front [] ys a = tt
+  all_front (x ∷ xs) ys a = (a.0, all_front xs ys a.1)
+
+  pub all_behind : (xs ys : List A) → All P (xs ++ ys) → All P ys
+  all_behind [] ys a = a
+  all_behind (x ∷ xs) ys a = all_behind xs ys a.1
+
+  pub all_listed : (xs : List A) → All P xs → (i : ℕ) (d : A) → i < length xs → P (get_or xs i d)
+  all_listed [] a i d h = absurd (omega arith)
+  all_listed (x ∷ xs) a zero d h = a.0
+  all_listed (x ∷ xs) a (suc i) d h = all_listed xs a.1 i d (omega arith)
 
   pub all_tab : (n : ℕ) (f : ℕ → A) → ((i : ℕ) → i < n → P (f i)) → All P (tab n f)
   unfolding tab

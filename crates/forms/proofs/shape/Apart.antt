@@ -1,15 +1,17 @@
 -- Forms whose wires are below m, apart from each other and from wire 0. Then the terms of each part of a form's letters have
 -- different wires below m and residues below p, and all parts have at most 163 terms: 162 and 1 of a sum.
 use Rattle.std.proofs.Common.{◌≡◌, ℕ, ◌+◌, ◌<◌, ◌≤◌, not, List, [], ◌∷◌, length, arith, length-append}
+use Rattle.field.specs.Field.{p}
 use Rattle.forms.proofs.shape.DifferenceApart.{ApartDifference, difference_few, difference_part}
-use Rattle.forms.proofs.shape.Rises.{Part, nonzero-length}
+use Rattle.forms.proofs.shape.Rises.{Part, all_nonzero, nonzero_distinct, nonzero-length}
 use Rattle.forms.proofs.shape.SumApart.{ApartSum, sum_few, sum_part}
 use Rattle.forms.proofs.terms.SumTerms.{addend_words}
-use Rattle.forms.specs.Rows.{Row, bound_value, is_lower, letters, with_sign, terms}
+use Rattle.forms.specs.Rows.{Row, bound_value, is_lower, letters, nonzero, with_sign, terms}
 use Rattle.forms.specs.Shape.{All, Pairwise, most_terms}
 use Rattle.forms.specs.Terms.{term_count, unsorted}
 use Rattle.forms.specs.declared.form.Form.TheVariants.{Fixed, Bit, XorOfTwo, XorOfThree, Majority, Choice, Sum, Equal, Difference}
 use Rattle.forms.specs.declared.form.Form.{Form}
+use Rattle.forms.specs.declared.form.Term.{Term}
 
 -- different wires below m, none of them wire 0; where a form has a constant, that is in range
 pub record ApartWires (m : ℕ) (ws : List ℕ) : Type 0 where
@@ -44,6 +46,22 @@ letters_parts m (Sum s c r) h = record { a = sum_part m s c r h; b = omega arith
 letters_parts m (Equal x y) h = omega arith
 letters_parts m (Difference d bound n r) h =
     record { a = difference_part m d bound n r h; b = omega (arith, h.result); c = omega arith }
+
+-- so have those of the form, without the zero ones
+
+pub part_nonzero : (m : ℕ) (ts : List Term) → Part m ts → Part m (nonzero ts)
+part_nonzero m ts h =
+    record {
+      distinct = nonzero_distinct ts h.distinct;
+      wires = all_nonzero (λ t. t.wire.0 < m) ts h.wires;
+      residues = all_nonzero (λ t. t.residue < p) ts h.residues;
+    }
+
+pub unsorted_parts : (m : ℕ) (f : Form) → Apart m f → Parts m (unsorted f)
+unfolding unsorted
+unsorted_parts m f h =
+    let parts = letters_parts m f h in
+    record { a = part_nonzero m _ parts.a; b = part_nonzero m _ parts.b; c = part_nonzero m _ parts.c }
 
 -- how many terms a form has, the zero ones left out
 

@@ -11,10 +11,19 @@ pub keeps : (t : Term) (ts : List Term) → (t.residue ≡ 0 → ⊥) → nonzer
 unfolding nonzero
 keeps t ts e = rw (ne_eqb t.residue 0 e)
 
-pub nonzero-append : (xs ys : List Term) → nonzero (xs ++ ys) ≡ nonzero xs ++ nonzero ys
+-- of one term
+pub nonzero_drops : (t : Term) → t.residue ≡ 0 → nonzero (t ∷ []) ≡ []
 unfolding nonzero
-nonzero-append [] ys = refl
-nonzero-append (x ∷ xs) ys = go (eqb x.residue 0) (nonzero-append xs ys)
+nonzero_drops t e = drops t [] e
+
+pub nonzero_keeps : (t : Term) → (t.residue ≡ 0 → ⊥) → nonzero (t ∷ []) ≡ t ∷ []
+unfolding nonzero
+nonzero_keeps t e = keeps t [] e
+
+pub nonzero_append : (xs ys : List Term) → nonzero (xs ++ ys) ≡ nonzero xs ++ nonzero ys
+unfolding nonzero
+nonzero_append [] ys = refl
+nonzero_append (x ∷ xs) ys = go (eqb x.residue 0) (nonzero_append xs ys)
   where
     go : (b : Bool) → nonzero (xs ++ ys) ≡ nonzero xs ++ nonzero ys
         → cond b (nonzero (xs ++ ys)) (x ∷ nonzero (xs ++ ys)) ≡ cond b (nonzero xs) (x ∷ nonzero xs) ++ nonzero ys

@@ -1,13 +1,13 @@
 -- The terms of a sum's row. A word's 32 terms lie on the 32 wires from its first on, the terms taken off on the 34 from the
 -- result's first on, and the constant's on wire 0. So where these runs of wires do not overlap, all wires differ.
-use Rattle.std.proofs.Common.{ℕ, ◌+◌, ◌-◌, ◌*◌, ◌^◌, ◌<◌, ◌≤◌, List, [], ◌∷◌, ◌++◌, length, append_assoc, arith, length-append, pow_pos, pow_mono}
+use Rattle.std.proofs.Common.{ℕ, ◌+◌, ◌-◌, ◌*◌, ◌^◌, ◌<◌, ◌≤◌, List, [], ◌∷◌, ◌++◌, length, append_assoc, arith, pow_pos, pow_mono}
 use Rattle.encoding.specs.Sequence.{tab}
 use Rattle.field.specs.Field.{p}
 use Rattle.forms.proofs.shape.All.{all_append, all_tab, pairwise_append, pairwise_tab}
 use Rattle.forms.proofs.shape.Clear.{Clear, ClearWords, Under}
 use Rattle.forms.proofs.shape.Rises.{Part}
 use Rattle.forms.proofs.shape.TermRuns.{Off, On, Run, constant-run, run-before, run_off, run_part}
-use Rattle.forms.proofs.terms.SumTerms.{addend_words, addends_length, addends_weighted, sum-length, weighted_all}
+use Rattle.forms.proofs.terms.SumTerms.{addend_words, addends_weighted, sum_count, weighted_all}
 use Rattle.forms.specs.Positions.{one}
 use Rattle.forms.specs.Rows.{◌·◌, addend_terms, nonzero, taken, weighted}
 use Rattle.forms.specs.Shape.{All, Pairwise, most_terms}
@@ -89,4 +89,4 @@ module _ (m : ℕ) (s : Addends) (c : ℕ) (r : WireNumber) (h : ApartSum m (add
 
   -- four words and no constant or two words and one, then 34 terms and the 1 of B
   pub sum_few : term_count (Sum s c r) ≤ most_terms
-  sum_few = omega (arith, sum-length s c r, h.few, addends_length s, length-append (addend_terms s) (nonzero (c · one ∷ [])))
+  sum_few = omega (arith, sum_count s c r, h.few)

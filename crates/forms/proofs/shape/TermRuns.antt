@@ -3,10 +3,10 @@ use Rattle.std.proofs.Common.{◌≡◌, ℕ, ◌+◌, ◌<◌, ◌≤◌, List,
 use Rattle.field.specs.Field.{p}
 use Rattle.forms.proofs.shape.All.{all_append, all_map, pairwise_append}
 use Rattle.forms.proofs.shape.Clear.{Clear}
-use Rattle.forms.proofs.shape.Rises.{Distinct, Part}
+use Rattle.forms.proofs.shape.Rises.{Part}
 use Rattle.forms.specs.Positions.{one}
 use Rattle.forms.specs.Rows.{◌·◌}
-use Rattle.forms.specs.Shape.{All}
+use Rattle.forms.specs.Shape.{All, Distinct}
 use Rattle.forms.specs.declared.form.Term.{Term}
 
 -- a term's wire is one of the n from a on

@@ -1,15 +1,13 @@
 -- The bytes of terms and how they are written: a number byte by byte, a term's coefficient behind its wire, and term
 -- behind term.
-use Rattle.std.proofs.Common.{◌≡◌, ℕ, ◌+◌, ◌*◌, ◌<◌, ◌≤◌, List, [], ◌∷◌, ◌++◌, length, get_or, ℤ, pos, negsuc, take, sym, refl, ap, ◌∙◌, ap₂, append_assoc, append-nil, zero-le, add-one, arith, length-append, length-take-le, take_all, take-suc}
+use Rattle.std.proofs.Common.{◌≡◌, ℕ, ◌+◌, ◌*◌, ◌<◌, List, [], ◌∷◌, ◌++◌, length, get_or, ℤ, pos, negsuc, take, sym, refl, ap, ◌∙◌, ap₂, append_assoc, append-nil, add-one, arith, length-append, length-take-le, take-suc}
 use Rattle.std.specs.Int.{cast_unsigned, w64}
 use Rattle.encoding.proofs.Bytes.{length-least_first, length-twos_complement}
-use Rattle.encoding.proofs.Written.{length-written, written_as, written_none, written_then}
+use Rattle.encoding.proofs.Written.{written_as, written_then}
 use Rattle.encoding.specs.Bytes.{least_first, twos_complement}
 use Rattle.encoding.specs.Written.{Written}
-use Rattle.forms.proofs.terms.FlatAll.{none, term_front}
 use Rattle.forms.specs.Coefficients.{coefficient}
 use Rattle.forms.specs.TermBytes.{term_bytes, terms_bytes}
-use Rattle.forms.specs.Terms.{flat, term_at}
 use Rattle.forms.specs.declared.form.Term.{Term}
 
 -- the bytes of a signed number are those of its 64 bits
@@ -30,43 +28,27 @@ pub next-number : {at : ℕ} {l l' l'' : List ℕ} (t : Term) → Written at (le
 unfolding term_bytes
 next-number {at} t h h' = written_then (at + 4) (ap (λ k. at + k) (sym (length-least_first 4 t.wire.0))) h h'
 
-terms_snoc : (ts : List Term) (t : Term) → terms_bytes (ts ++ (t ∷ [])) ≡ terms_bytes ts ++ term_bytes t
+pub terms_append : (ts us : List Term) → terms_bytes (ts ++ us) ≡ terms_bytes ts ++ terms_bytes us
 unfolding terms_bytes
-terms_snoc [] t = append-nil (term_bytes t)
-terms_snoc (s ∷ ts) t = ap (λ l. term_bytes s ++ l) (terms_snoc ts t) ∙ sym (append_assoc (term_bytes s) (terms_bytes ts) (term_bytes t))
+terms_append [] us = refl
+terms_append (t ∷ ts) us = ap (λ l. term_bytes t ++ l) (terms_append ts us) ∙ sym (append_assoc (term_bytes t) (terms_bytes ts) (terms_bytes us))
 
 pub length-terms : (ts : List Term) → length (terms_bytes ts) ≡ 12 * length ts
 unfolding terms_bytes
 length-terms [] = refl
 length-terms (t ∷ ts) = omega (arith, length-append (term_bytes t) (terms_bytes ts), term_length t, length-terms ts)
 
--- the first i of n terms are written at the front
-pub record TermsWritten (terms : List ℕ) (n : ℕ) (before after : List ℕ) (i : ℕ) : Type 0 where
-  pub within : i ≤ n
-  pub kept : length after ≡ length before
-  pub bytes : (ts : List Term) (rest : List ℕ) → length ts ≡ n → terms ≡ flat ts ++ rest
-      → Written 0 (terms_bytes (take i ts)) before after
+-- one list of terms behind another, and one more term of a list
 
-pub terms-none : (terms : List ℕ) (n : ℕ) (l : List ℕ) → TermsWritten terms n l l 0
+pub terms_then : (ts us : List Term) {at : ℕ} {l m r : List ℕ} (end : ℕ) → end ≡ at + 12 * length ts → Written at (terms_bytes ts) l m
+    → Written end (terms_bytes us) m r → Written at (terms_bytes (ts ++ us)) l r
+terms_then ts us {at} end e p q =
+    let place : end ≡ at + length (terms_bytes ts) = e ∙ ap (λ k. at + k) (sym (length-terms ts)) in
+    written_as (sym (terms_append ts us)) (written_then end place p q)
+
+pub terms-next : (ts : List Term) (i : ℕ) (d : Term) {at end : ℕ} {l m r : List ℕ} → i < length ts → end ≡ at + 12 * i
+    → Written at (terms_bytes (take i ts)) l m → Written end (term_bytes (get_or ts i d)) m r → Written at (terms_bytes (take (i + 1) ts)) l r
 unfolding terms_bytes
-terms-none terms n l = record { within = zero-le; kept = refl; bytes = λ ts rest long e. written_none 0 l }
-
-module _ {terms : List ℕ} {n : ℕ} {l m : List ℕ} {i : ℕ} (h : TermsWritten terms n l m i) where
-  pub terms-next : {r : List ℕ} {u : Term} → i < n → u ≡ term_at terms i
-      → Written (12 * i) (term_bytes u) m r
-      → TermsWritten terms n l r (i + 1)
-  terms-next {r} low eu e = record { within = omega arith; kept = length-written e ∙ h.kept; bytes = next }
-    where
-      next : (ts : List Term) (rest : List ℕ) → length ts ≡ n → terms ≡ flat ts ++ rest
-          → Written 0 (terms_bytes (take (i + 1) ts)) l r
-      next ts rest long f =
-          let below : i < length ts = omega arith in
-          let end : 12 * i ≡ 0 + length (terms_bytes (take i ts)) =
-          omega (arith, length-terms (take i ts), length-take-le i ts (omega arith)) in
-          rw (add-one i, take-suc ts i none below, terms_snoc (take i ts) (get_or ts i none))
-          (written_then (12 * i) end (h.bytes ts rest long f) (written_as (ap term_bytes (eu ∙ term_front ts terms rest f i below)) e))
-
-  pub terms_all : n ≤ i → (ts : List Term) (rest : List ℕ) → length ts ≡ n → terms ≡ flat ts ++ rest → Written 0 (terms_bytes ts) l m
-  terms_all high ts rest long f =
-      let whole : take i ts ≡ ts = take_all i ts (omega arith) in
-      rw whole at (h.bytes ts rest long f)
+terms-next ts i d {at} {end} low e p q =
+    let place : end ≡ at + 12 * length (take i ts) = omega (arith, length-take-le i ts (omega arith)) in
+    rw (add-one i, take-suc ts i d low) (terms_then (take i ts) (get_or ts i d ∷ []) end place p (written_as (sym (append-nil _)) q))

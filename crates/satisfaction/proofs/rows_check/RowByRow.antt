@@ -1,11 +1,11 @@
--- A row as the check judges it. The buffer holds the terms of the row's form, without the zero ones and in the letters' order;
--- their values are those of the row, where they stand sorted, and residues tell of it what its coefficients do.
+-- A row as the check judges it. The terms of the row's form are held, without the zero ones and in the letters' order; their values are those
+-- of the row, where they stand sorted, and residues tell of it what its coefficients do.
 use mathlib.Core.List.{List, ◌++◌}
 use mathlib.Core.Path.{◌≡◌, ◌∙◌, ap, ap₂, subst, sym}
 use Prim.Native.Nat.{ℕ, ◌+◌, ◌-◌, ◌*◌, ◌%◌, ◌≤◌, ◌<◌}
 use native.Mathlib.Omega.{arith}
 use lib.Dec.{eqb}
-use lib.ListN.{drop, length}
+use lib.ListN.{get_or, length, length-append}
 use Rattle.assignment.specs.Assignment.{entry}
 use Rattle.circuit.proofs.shape.Shape.{letters-within}
 use Rattle.circuit.specs.Circuit.{form_at, row_at}
@@ -13,18 +13,19 @@ use Rattle.circuit.specs.Places.{row_count}
 use Rattle.circuit.specs.Ranges.{Allowed}
 use Rattle.circuit.specs.Wires.{wire_count}
 use Rattle.circuit.specs.declared.circuits.Circuit.{Circuit}
-use Rattle.encoding.proofs.Written.{length-written}
 use Rattle.field.specs.Field.{p}
 use Rattle.forms.proofs.exact.Signed.{rows_unaltered}
 use Rattle.forms.proofs.exact.Values.{value-nonzero, value_normal}
-use Rattle.forms.proofs.terms.FlatAll.{all_front, term_front}
-use Rattle.forms.proofs.terms.WrittenTerms.{filled-front, filled-length}
+use Rattle.forms.proofs.shape.All.{all_listed}
+use Rattle.forms.proofs.terms.Indexed.{none}
 use Rattle.forms.specs.Former.{former_holds, former_value}
 use Rattle.forms.specs.Rows.{Row, holds, letters, nonzero, normal_form, row_of, terms}
-use Rattle.forms.specs.Terms.{Filled, flat, term_at, term_room, unsorted}
+use Rattle.forms.specs.Shape.{most_terms}
+use Rattle.forms.specs.Terms.{all_terms, counted, held, term_count, unsorted}
 use Rattle.forms.specs.declared.form.Form.{Form}
 use Rattle.forms.specs.declared.form.Term.{Term}
 use Rattle.forms.specs.declared.terms.Counts.{Counts}
+use Rattle.forms.specs.declared.terms.RowTerms.{RowTerms}
 use Rattle.satisfaction.proofs.sums.TermByTerm.{judged, sums_next, sums_to, worth}
 use Rattle.satisfaction.specs.Sums.{added}
 use Rattle.satisfaction.specs.Lowest.{lowest}
@@ -39,48 +40,71 @@ holds-letters e f =
     ap₂ eqb (ap₂ (λ x y. (x * y) % p) (same row.A) (same row.B)) (ap (λ v. v % p) (same row.C))
     ∙ sym (rows_unaltered e (row_of f))
 
--- Row k of a circuit, whose terms were filled in.
-module _ (C : Circuit) (k : ℕ) {r : Counts} {before after : List ℕ} (filled : Filled (unsorted (form_at C k)) r before after) where
+-- the terms of a form that is a row's are those of the row, and few
+module _ (f g : Form) (t : RowTerms) where
+  pub filled_as : f ≡ g → t ≡ held (unsorted f) → t ≡ held (unsorted g)
+  filled_as e h = h ∙ ap (λ x. held (unsorted x)) e
+
+  pub few : term_count f ≤ most_terms → t ≡ held (unsorted f) → (n : Counts) → n ≡ counted t → n.a + n.b + n.c ≤ most_terms
+  unfolding terms
+  few h e n en =
+      omega (
+        arith,
+        h,
+        ap (λ (m : Counts). m.a + m.b + m.c) (en ∙ ap counted e),
+        length-append ((unsorted f).A ++ (unsorted f).B) (unsorted f).C,
+        length-append (unsorted f).A (unsorted f).B,
+      )
+
+-- Row k of a circuit, whose terms are held.
+module _ (C : Circuit) (k : ℕ) (held_terms : RowTerms) (is : held_terms ≡ held (unsorted (form_at C k))) where
   abbrev row : Row
   row = unsorted (form_at C k)
 
+  same_terms : all_terms held_terms ≡ terms row
+  unfolding terms
+  same_terms = ap all_terms is
+
+  pub term_total : (n : Counts) → n ≡ counted held_terms → n.a + n.b + n.c ≡ length (terms row)
+  unfolding terms
+  term_total n e = omega (arith, ap (λ (m : Counts). m.a + m.b + m.c) (e ∙ ap counted is), length-append (row.A ++ row.B) row.C, length-append row.A row.B)
+
   -- what the sums of all its terms tell is told of it
-  pub row_judged : (e : ℕ → ℕ) {s : Sums} (t : ℕ) → s ≡ sums_to e row t → t ≡ r.a + r.b + r.c
+  pub row_judged : (e : ℕ → ℕ) (s : Sums) (t : ℕ) (n : Counts) → n ≡ counted held_terms → s ≡ sums_to e row t → t ≡ n.a + n.b + n.c
       → eqb ((s.a * s.b) % p) s.c ≡ holds e (row_at C k)
   unfolding row_at
-  row_judged e t es et = rw es (judged e row t (omega (arith, filled-length filled))) ∙ holds-letters e (form_at C k)
+  row_judged e s t n en es et = rw es (judged e row t (omega (arith, term_total n en))) ∙ holds-letters e (form_at C k)
 
   -- its term t
-  module _ (room : length before ≡ term_room) (t : ℕ) (l : t < r.a + r.b + r.c) where
+  module _ (n : Counts) (en : n ≡ counted held_terms) (t : ℕ) (l : t < n.a + n.b + n.c) where
     inside : t < length (terms row)
-    inside = omega (arith, filled-length filled)
+    inside = omega (arith, term_total n en)
 
-    pub term_room_lem : 2 * t + 2 ≤ length after
-    term_room_lem = omega (arith, filled.few, length-written filled.written)
+    pub term_inside : t < length (all_terms held_terms)
+    term_inside = omega (arith, inside, ap length same_terms)
 
-    front : after ≡ flat (terms row) ++ drop (2 * (r.a + r.b + r.c)) before
-    front = filled-front filled (omega (arith, filled.few))
+    module _ (u : Term) (eu : (d : Term) → u ≡ get_or (all_terms held_terms) t d) where
+      listed : (d : Term) → u ≡ get_or (terms row) t d
+      listed d = eu d ∙ ap (λ ts. get_or ts t d) same_terms
 
-    -- its wire is not past the last, and its residue is below p
-    pub term_within : Allowed C → k < row_count C → {u : Term} → u ≡ term_at after t → (u.wire.0 < wire_count C) × (u.residue < p)
-    term_within allowed below e =
-        let Within : Term → Type 0 = λ u. (u.wire.0 < wire_count C) × (u.residue < p) in
-        subst Within (sym e) (all_front (terms row) after _ front t inside Within (letters-within C allowed k below))
+      -- its wire is not past the last, and its residue is below p
+      pub term_within : Allowed C → k < row_count C → (u.wire.0 < wire_count C) × (u.residue < p)
+      term_within allowed below =
+          let Within : Term → Type 0 = λ v. (v.wire.0 < wire_count C) × (v.residue < p) in
+          subst Within (sym (listed none)) (all_listed Within (terms row) (letters-within C allowed k below) t none inside)
 
-    -- with what it adds, the sums are those of one term more
-    pub term_added : (e : ℕ → ℕ) {s s' : Sums} {u : Term} {x : ℕ} → s ≡ sums_to e row t → u ≡ term_at after t → x ≡ worth e u
-        → s' ≡ added s r t x → s' ≡ sums_to e row (t + 1)
-    term_added e es eu ex es' =
-        es'
-        ∙ ap₂ (λ s x. added s r t x) es (ex ∙ ap (worth e) (eu ∙ term_front (terms row) after _ front t inside))
-        ∙ sums_next e row r filled.a filled.b t inside
+      -- with what it adds, the sums are those of one term more
+      pub term_added : (e : ℕ → ℕ) (s s' : Sums) (x : ℕ) → s ≡ sums_to e row t → x ≡ worth e u → s' ≡ added s n t x → s' ≡ sums_to e row (t + 1)
+      term_added e s s' x es ex es' =
+          es'
+          ∙ ap₂ (λ s x. added s n t x) es (ex ∙ ap (worth e) (listed none))
+          ∙ sums_next e row n (ap (λ (m : Counts). m.a) (en ∙ ap counted is)) (ap (λ (m : Counts). m.b) (en ∙ ap counted is)) t inside
 
 -- before a turn at row k all rows below it hold
-pub record Turn (C : Circuit) (bytes terms : List ℕ) (k : ℕ) : Type 0 where
+pub record Turn (C : Circuit) (bytes : List ℕ) (k : ℕ) : Type 0 where
   pub within : k ≤ row_count C
-  pub room : length terms ≡ term_room
   pub lower : lowest (entry bytes) (row_at C) 0 (row_count C) ≡ lowest (entry bytes) (row_at C) k (row_count C - k)
 
 -- .. and where k is not their count, there is a row k
-pub row_below : {C : Circuit} {bytes terms : List ℕ} {k end : ℕ} → Turn C bytes terms k → (k ≡ end → ⊥) → end ≡ row_count C → k < row_count C
+pub row_below : {C : Circuit} {bytes : List ℕ} {k end : ℕ} → Turn C bytes k → (k ≡ end → ⊥) → end ≡ row_count C → k < row_count C
 row_below turn other e = omega (arith, turn.within)

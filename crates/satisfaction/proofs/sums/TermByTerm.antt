@@ -11,23 +11,17 @@ use native.Mathlib.Omega.{arith}
 use borrow.Author.Tests.{le-ltb, lt-ltb}
 use lib.Dec.{eqb, lit<}
 use lib.ListN.{get_or-append, get_or, length, length-append, take}
-use lib.Seq.{get_or-append-add, take_all, take-suc}
+use lib.Seq.{take_all, take-suc}
 use Rattle.field.proofs.Congruence.{mul-mod}
 use Rattle.field.specs.Field.{p}
 use Rattle.forms.proofs.exact.Values.{value-append}
-use Rattle.forms.proofs.terms.FlatAll.{none}
+use Rattle.forms.proofs.terms.Indexed.{none, past}
 use Rattle.forms.specs.Former.{former_holds, former_value}
 use Rattle.forms.specs.Rows.{Row, terms}
 use Rattle.forms.specs.declared.form.Term.{Term}
 use Rattle.forms.specs.declared.terms.Counts.{Counts}
 use Rattle.satisfaction.specs.Sums.{added}
 use Rattle.satisfaction.specs.declared.sums.Sums.{Sums}
-
--- an element of the second list
-past : (xs ys : List Term) (t : ℕ) → length xs ≤ t → get_or (xs ++ ys) t none ≡ get_or ys (t - length xs) none
-past xs ys t l =
-    let place : t ≡ length xs + (t - length xs) = omega arith in
-    ap (λ i. get_or (xs ++ ys) i none) place ∙ get_or-append-add xs ys (t - length xs) none
 
 module _ (e : ℕ → ℕ) where
   -- what a term adds
@@ -89,13 +83,13 @@ module _ (e : ℕ → ℕ) where
         (λ in_b.
         rw (ea, eb, le-ltb t (length A) (omega arith), lt-ltb i (length B) in_b)
         (sums_at (t + 1) (i + 1) j (omega arith) (omega arith) (stays A t (omega arith))
-        (ap (λ u. (up_to B i + worth u) % p) (get_or-append (A ++ B) C none t (omega (arith, length-append A B)) ∙ past A B t (omega arith))
+        (ap (λ u. (up_to B i + worth u) % p) (get_or-append (A ++ B) C none t (omega (arith, length-append A B)) ∙ past A B t none (omega arith))
         ∙ one_more B i in_b) refl))
         (λ past-b.
         let place : t - length (A ++ B) ≡ j = omega (arith, length-append A B) in
         rw (ea, eb, le-ltb t (length A) (omega arith), le-ltb i (length B) (omega arith))
         (sums_at (t + 1) (i + 1) (j + 1) (omega arith) (omega arith) (stays A t (omega arith)) (stays B i (omega arith))
-        (ap (λ u. (up_to C j + worth u) % p) (past (A ++ B) C t (omega (arith, length-append A B)) ∙ ap (λ k. get_or C k none) place)
+        (ap (λ u. (up_to C j + worth u) % p) (past (A ++ B) C t none (omega (arith, length-append A B)) ∙ ap (λ k. get_or C k none) place)
         ∙ one_more C j (omega (arith, length-append (A ++ B) C, length-append A B))))))
 
     pub residues : (t : ℕ) {s : Sums} → s ≡ sums_to t → (s.a < p) × (s.b < p) × (s.c < p)

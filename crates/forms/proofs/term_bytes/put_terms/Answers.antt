@@ -1,24 +1,30 @@
--- Turn i writes term i behind the bytes of those before it.
-use Rattle.std.proofs.Common.{◌<◌, sym, subst, rules}
+-- The terms of A, of B and of C are written one list behind the other.
+use Rattle.std.proofs.Common.{◌<◌, ◌++◌, ap, arith, length, length-append, subst, sym}
+use Rattle.encoding.proofs.Written.{length-written}
 use Rattle.field.specs.Field.{p}
-use Rattle.forms.proofs.term_bytes.TermBytes.{terms_all, terms-next, terms-none}
+use Rattle.forms.proofs.shape.All.{all_behind, all_front}
+use Rattle.forms.proofs.term_bytes.TermBytes.{terms_then}
+use Rattle.forms.specs.Shape.{All}
 use Rattle.forms.specs.declared.form.Term.{Term}
 use Rattle.forms.proofs.term_bytes.put_terms.Goals as goal
 
-pub loop-i-init : goal.loop-i-init
-loop-i-init c = terms-none _ _ _
+pub put_part-requires-2 : goal.put_part-requires-2
+put_part-requires-2 c =
+    let t = c.args.terms.now in
+    let b = all_behind (λ (u : Term). u.residue < p) t.a t.b (all_front _ (t.a ++ t.b) t.c c.requires.1) in (
+      omega (arith, c.requires.0, c.len-b.ensures, ap length c.as_slice-2.ensures, length-written c.put_part.ensures, length-append (t.a ++ t.b) t.c, length-append t.a t.b),
+      subst (All (λ (u : Term). u.residue < p)) (sym c.as_slice-2.ensures) b,
+    )
 
-pub put_term-requires : goal.put_term-requires
-put_term-requires c =
-    let residue = c.requires.2 _ c.loop-i-test.true in
-    (search rules, subst (λ (u : Term). u.residue < p) (sym c.term_at.ensures) residue)
-
-pub loop-i-preserved : goal.loop-i-preserved
-loop-i-preserved c =
-    terms-next c.loop-i.invariant c.loop-i-test.true c.term_at.ensures c.put_term.ensures
-
-pub shape_of-out : goal.shape_of-out
-shape_of-out c = c.loop-i.invariant.kept
+pub put_part-requires-3 : goal.put_part-requires-3
+put_part-requires-3 c =
+    let t = c.args.terms.now in (
+      omega (arith, c.requires.0, c.len-b.ensures, c.len.ensures, ap length c.as_slice-3.ensures, length-written c.put_part.ensures, length-written c.put_part-2.ensures, length-append (t.a ++ t.b) t.c, length-append t.a t.b),
+      subst (All (λ (u : Term). u.residue < p)) (sym c.as_slice-3.ensures) (all_behind _ (t.a ++ t.b) t.c c.requires.1),
+    )
 
 pub returns : goal.returns
-returns c = terms_all c.loop-i.invariant c.loop-i-test.false
+returns c =
+    let t = c.args.terms.now in
+    let ab = terms_then t.a t.b _ (omega (arith, c.len-b.ensures)) (rw c.as_slice.ensures at c.put_part.ensures) (rw c.as_slice-2.ensures at c.put_part-2.ensures) in
+    terms_then (t.a ++ t.b) t.c _ (omega (arith, c.len-b.ensures, c.len.ensures, length-append t.a t.b)) ab (rw c.as_slice-3.ensures at c.put_part-3.ensures)

@@ -1,13 +1,7 @@
--- One digit makes 4 terms and two make 8, the tens behind the units.
-use Rattle.forms.proofs.terms.DifferenceTerms.{one_written, two-written}
+-- The tens are put on behind the units.
+use Rattle.forms.proofs.terms.Pushed.{two_digits}
 use Rattle.forms.proofs.terms.push_digits.Goals as goal
 
-pub returns-in-Some : goal.returns-in-Some
-returns-in-Some c =
-    let a = c.args in
-    two-written a.plus a.d c.in-Some.is c.push_number.ensures c.push_number-in-Some.ensures
-
-pub returns-in-None : goal.returns-in-None
-returns-in-None c =
-    let a = c.args in
-    one_written a.plus a.d c.in-None.is c.push_number.ensures
+pub returns-in-Some-clause-end : goal.returns-in-Some-clause-end
+returns-in-Some-clause-end c =
+    two_digits c.args.plus c.args.d _ _ _ _ c.in-Some.is c.push_number.ensures.end c.push_number-in-Some.ensures.end

@@ -1,47 +1,27 @@
--- Turn i writes the term of bit i behind those of the bits before it. 64 halved 7 - n + i times is the weight of bit i.
-use Rattle.std.proofs.Common.{◌≡◌, ℕ, ◌+◌, ◌-◌, ◌*◌, ◌/◌, ◌^◌, ap, ◌∙◌, ap₂, arith}
-use lib.Pow.{shr_le}
-use Rattle.encoding.proofs.Written.{length-written, written_none}
+-- Turn i puts on the term of bit i behind those of the bits before it.
+use Rattle.std.proofs.Common.{◌≡◌, ◌-◌, ◌*◌, ap, ap₂, ◌∙◌, arith}
 use Rattle.encoding.specs.Sequence.{tab}
-use Rattle.forms.proofs.terms.DifferenceTerms.{few, halved, number_term}
-use Rattle.forms.proofs.terms.WrittenTerms.{terms-next}
+use Rattle.forms.proofs.terms.Pushed.{number_term, pushed_next, pushed_none, shifted}
 use Rattle.forms.specs.Rows.{◌·◌, number_terms, with_sign}
-use Rattle.forms.specs.Terms.{flat}
 use Rattle.forms.proofs.terms.push_number.Goals as goal
 
 pub loop-i-init : goal.loop-i-init
-unfolding flat tab
-loop-i-init c = (omega arith, written_none _ _)
-
-pub overflow_mul-k : goal.overflow_mul-k
-overflow_mul-k c =
-    let a = c.args in
-    omega (arith, few a.k (64 / 2 ^ (7 - a.width + c.loop-i.i)) c.requires.1 (shr_le 64 (7 - a.width + c.loop-i.i)))
-
-pub with_sign-requires : goal.with_sign-requires
-with_sign-requires c =
-    let a = c.args in
-    omega (arith, few a.k (64 / 2 ^ (7 - a.width + c.loop-i.i)) c.requires.1 (shr_le 64 (7 - a.width + c.loop-i.i)))
-
-pub push-requires : goal.push-requires
-push-requires c = omega (arith, length-written c.loop-i.invariant.1, c.requires)
+unfolding tab
+loop-i-init c = (pushed_none c.args.part.now, omega arith)
 
 pub loop-i-preserved : goal.loop-i-preserved
 loop-i-preserved c =
     let a = c.args in
-    let i = c.loop-i.i in (
-      omega arith,
-      terms-next a.n i (number_term a.plus a.k a.width a.w) _ c.loop-i.invariant.1
-          (ap₂ ◌·◌ (c.with_sign.ensures ∙ ap (λ (m : ℕ). with_sign a.plus (a.k * m)) (halved a.width i c.requires.2 c.loop-i-test.true)) c.wire_past.ensures)
-          c.push.ensures,
+    let i = c.loop-i.i in
+    let weight = shifted (a.width - 1 - i) (omega (arith, c.requires)) in
+    let sign = c.with_sign.ensures ∙ ap (λ m. with_sign a.plus (a.k * m)) weight in (
+      pushed_next a.part.now (number_term a.plus a.k a.width a.w) i c.loop-i.invariant.0
+          (c.times.ensures ∙ ap₂ ◌·◌ sign c.wire_past.ensures) c.push.ensures.end,
+      omega (arith, c.push.ensures.room, c.loop-i.invariant.1),
     )
 
-pub shape_of-terms : goal.shape_of-terms
-shape_of-terms c = length-written c.loop-i.invariant.1
-
-pub returns : goal.returns
+pub returns-clause-end : goal.returns-clause-end
 unfolding number_terms
-returns c =
-    let a = c.args in
-    let end : c.loop-i.i ≡ a.width = omega (arith, c.loop-i.invariant.0, c.loop-i-test.false) in
-    rw end at c.loop-i.invariant.1
+returns-clause-end c =
+    let end : c.loop-i.i ≡ c.args.width = omega (arith, c.loop-i.auto.i-end, c.loop-i-test.false) in
+    rw end at c.loop-i.invariant.0

@@ -1,13 +1,12 @@
 -- Each chunk leaves less to print.
 use mathlib.Core.Path.{◌≡◌}
 use lib.ListN.{length}
-use Rattle.forms.specs.Terms.{term_room}
 use Rattle.listing.specs.Progress.{IfPossible}
 use Rattle.listing.proofs.AllPrinted.{left}
 use Rattle.listing.proofs.program.print_listing.Given as goal
 
 abbrev pub invariant-loop-progress : goal.invariant-loop-progress
-invariant-loop-progress l = IfPossible l.progress × (length l.out ≡ 65536) × (length l.terms ≡ term_room)
+invariant-loop-progress l = IfPossible l.progress × (length l.out ≡ 65536)
 
 abbrev pub decreases-loop-progress : goal.decreases-loop-progress
 decreases-loop-progress l = left l.progress

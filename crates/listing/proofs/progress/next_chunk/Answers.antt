@@ -20,7 +20,7 @@ with_rows {l} {p} {before} exist h = (h, subst IfPossible (sym h.next) (possible
 pub fill-requires : goal.fill-requires
 fill-requires c =
     let pre = c.requires in
-    (pre.0, rw c.in-Lines.is at pre.1, pre.2)
+    (pre.0, rw c.in-Lines.is at pre.1)
 
 pub returns-in-Begun : goal.returns-in-Begun
 returns-in-Begun c =

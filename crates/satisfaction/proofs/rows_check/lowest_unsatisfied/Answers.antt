@@ -1,23 +1,21 @@
 -- Before each turn all rows below row k hold, so the lowest failing row is that of the rows from k on. Where rows from k on hold for sure,
 -- or row k by its form, a turn goes past them; else it sums up the terms of row k, and the sums of all of them tell whether it holds.
-use mathlib.Core.Path.{◌∙◌, ap, refl, subst, sym}
+use mathlib.Core.Path.{◌∙◌, ap, subst, sym}
 use native.Mathlib.Nat.{mod-lt, sub-zero}
 use native.Mathlib.Omega.{arith}
 use borrow.Author.Tests.{eq-eqb, ne_eqb}
 use lib.Dec.{lit<}
 use Rattle.assignment.specs.Assignment.{entry}
 use Rattle.circuit.proofs.place.PlaceRange.{most_rows_lem}
-use Rattle.circuit.proofs.row.SameForm.{filled_as}
 use Rattle.circuit.proofs.shape.RowApart.{row_apart}
 use Rattle.circuit.specs.Circuit.{row_at}
 use Rattle.circuit.specs.Wires.{wire_count}
-use Rattle.encoding.proofs.Written.{length-written}
 use Rattle.forms.proofs.shape.Apart.{Apart}
 use Rattle.forms.specs.Rows.{Satisfied, row_of}
 use Rattle.forms.specs.declared.form.Form.{Form}
 use Rattle.runs.proofs.Reaching.{apart_reached}
 use Rattle.satisfaction.proofs.Lowest.{lowest_end, lowest_fails, lowest-holds, lowest-past}
-use Rattle.satisfaction.proofs.rows_check.RowByRow.{row_below, row_judged, term_added, term_room_lem, term_within}
+use Rattle.satisfaction.proofs.rows_check.RowByRow.{few, filled_as, row_below, row_judged, term_added, term_inside, term_within}
 use Rattle.satisfaction.proofs.sums.TermByTerm.{residues, sums_none}
 use Rattle.satisfaction.specs.Lowest.{lowest}
 use Rattle.satisfaction.proofs.rows_check.lowest_unsatisfied.Goals as goal
@@ -26,7 +24,7 @@ pub row_count-end-requires : goal.row_count-end-requires
 row_count-end-requires c = c.args.candidate.now.allowed
 
 pub rows-init : goal.rows-init
-rows-init c = record { within = omega arith; room = refl; lower = ap (lowest _ _ 0) (sym (sub-zero _)) }
+rows-init c = record { within = omega arith; lower = ap (lowest _ _ 0) (sym (sub-zero _)) }
 
 pub rows_held-held-requires : goal.rows_held-held-requires
 rows_held-held-requires c = row_below c.rows.invariant c.if-k-end.false c.row_count-end.ensures.0
@@ -42,7 +40,7 @@ pub rows-preserved-then-held-gt0 : goal.rows-preserved-then-held-gt0
 rows-preserved-then-held-gt0 c =
     let held = c.rows_held-held.ensures in
     let inv = c.rows.invariant in
-    record { within = held.0; room = inv.room; lower = inv.lower ∙ lowest-past _ _ _ _ _ held.0 held.1.each }
+    record { within = held.0; lower = inv.lower ∙ lowest-past _ _ _ _ _ held.0 held.1.each }
 
 pub form_at-form-requires : goal.form_at-form-requires
 form_at-form-requires c =
@@ -74,25 +72,11 @@ rows-preserved-then-form_holds c =
     let below = row_below inv c.if-k-end.false c.row_count-end.ensures.0 in
     record {
       within = omega (arith, below);
-      room = inv.room;
       lower =
           inv.lower
           ∙ lowest-holds _ _ _ _ below
           (subst (λ (f : Form). Satisfied (entry bytes) (row_of f)) c.form_at-form.ensures.0 (c.form_holds.ensures c.if-form_holds.true));
     }
-
-pub slice_bounds-fill-end : goal.slice_bounds-fill-end
-slice_bounds-fill-end c = sym c.rows.invariant.room
-
-pub fill-counts-requires : goal.fill-counts-requires
-fill-counts-requires c =
-    (omega (arith, c.rows.invariant.room), c.form_at-form.ensures.1, c.form_at-form.ensures.2)
-
-pub overflow_add-count : goal.overflow_add-count
-overflow_add-count c = omega (arith, c.fill-counts.ensures.few)
-
-pub overflow_add-count-in-rows : goal.overflow_add-count-in-rows
-overflow_add-count-in-rows c = omega (arith, c.fill-counts.ensures.few)
 
 pub loop-t-init : goal.loop-t-init
 loop-t-init c = (omega arith, sums_none _ _)
@@ -102,33 +86,10 @@ part_product-requires c =
     let below = residues _ _ _ c.loop-t.invariant.1 in
     (below.0, below.1)
 
-pub term_at-requires : goal.term_at-requires
-term_at-requires c =
-    let inv = c.rows.invariant in
-    term_room_lem _ _ (filled_as c.form_at-form.ensures.0 c.fill-counts.ensures) inv.room _
-    (omega (arith, c.loop-t.invariant.0, c.if-t-count.false))
-
-pub term_value-requires : goal.term_value-requires
-term_value-requires c =
-    let inv = c.rows.invariant in
-    let inside = term_within _ _ (filled_as c.form_at-form.ensures.0 c.fill-counts.ensures) inv.room _
-    (omega (arith, c.loop-t.invariant.0, c.if-t-count.false)) c.args.candidate.now.allowed
-    (row_below inv c.if-k-end.false c.row_count-end.ensures.0) c.term_at.ensures in
-    (omega (arith, inside.0, c.args.candidate.now.whole), inside.1, c.args.candidate.now.below)
-
 pub add_term-sums-requires : goal.add_term-sums-requires
 add_term-sums-requires c =
     let below = residues _ _ _ c.loop-t.invariant.1 in
     (below.0, below.1, below.2, rw c.term_value.ensures (mod-lt _ (lit< tt)))
-
-pub loop-t-preserved : goal.loop-t-preserved
-loop-t-preserved c =
-    let inv = c.rows.invariant in (
-      omega (arith, c.loop-t.invariant.0, c.if-t-count.false),
-      term_added _ _ (filled_as c.form_at-form.ensures.0 c.fill-counts.ensures) inv.room _
-          (omega (arith, c.loop-t.invariant.0, c.if-t-count.false)) _ c.loop-t.invariant.1 c.term_at.ensures c.term_value.ensures
-          c.add_term-sums.ensures,
-    )
 
 pub overflow_add-k-in-rows : goal.overflow_add-k-in-rows
 overflow_add-k-in-rows c =
@@ -138,27 +99,64 @@ pub rows-smaller : goal.rows-smaller
 rows-smaller c =
     omega (arith, row_below c.rows.invariant c.if-k-end.false c.row_count-end.ensures.0)
 
+pub returns-then-k-end : goal.returns-then-k-end
+returns-then-k-end c =
+    sym (c.rows.invariant.lower ∙ lowest_end _ _ _ _ (c.if-k-end.true ∙ c.row_count-end.ensures.0))
+
+pub fill-requires : goal.fill-requires
+fill-requires c = c.form_at-form.ensures.1
+
+pub overflow_add-count : goal.overflow_add-count
+overflow_add-count c = omega (arith, few c.form_at-form.result c.form_at-form.result _ c.form_at-form.ensures.2 c.fill.ensures _ c.counts-counts.ensures)
+
+pub overflow_add-count-in-rows : goal.overflow_add-count-in-rows
+overflow_add-count-in-rows c = omega (arith, few c.form_at-form.result c.form_at-form.result _ c.form_at-form.ensures.2 c.fill.ensures _ c.counts-counts.ensures)
+
+pub overflow_add-t : goal.overflow_add-t
+overflow_add-t c =
+    omega (
+      arith,
+      c.loop-t.invariant.0,
+      c.if-t-count.false,
+      few c.form_at-form.result c.form_at-form.result _ c.form_at-form.ensures.2 c.fill.ensures _ c.counts-counts.ensures,
+    )
+
+pub term-requires : goal.term-requires
+term-requires c =
+    term_inside _ _ _ (filled_as _ _ _ c.form_at-form.ensures.0 c.fill.ensures) _ c.counts-counts.ensures _
+    (omega (arith, c.loop-t.invariant.0, c.if-t-count.false))
+
+pub term_value-requires : goal.term_value-requires
+term_value-requires c =
+    let inside = term_within _ _ _ (filled_as _ _ _ c.form_at-form.ensures.0 c.fill.ensures) _ c.counts-counts.ensures _
+    (omega (arith, c.loop-t.invariant.0, c.if-t-count.false)) _ c.term.ensures c.args.candidate.now.allowed
+    (row_below c.rows.invariant c.if-k-end.false c.row_count-end.ensures.0) in
+    (omega (arith, inside.0, c.args.candidate.now.whole), inside.1, c.args.candidate.now.below)
+
+pub loop-t-preserved : goal.loop-t-preserved
+loop-t-preserved c = (
+  omega (arith, c.loop-t.invariant.0, c.if-t-count.false),
+  term_added _ _ _ (filled_as _ _ _ c.form_at-form.ensures.0 c.fill.ensures) _ c.counts-counts.ensures _
+      (omega (arith, c.loop-t.invariant.0, c.if-t-count.false)) _ c.term.ensures _ _ _ _ c.loop-t.invariant.1 c.term_value.ensures
+      c.add_term-sums.ensures,
+)
+
 pub rows-preserved : goal.rows-preserved
 rows-preserved c =
     let inv = c.rows.invariant in
     let below = row_below inv c.if-k-end.false c.row_count-end.ensures.0 in
-    let row = row_judged _ _ (filled_as c.form_at-form.ensures.0 c.fill-counts.ensures) _ _ c.loop-t.invariant.1 c.if-t-count.true in
+    let row = row_judged _ _ _ (filled_as _ _ _ c.form_at-form.ensures.0 c.fill.ensures) _ _ _ _ c.counts-counts.ensures c.loop-t.invariant.1 c.if-t-count.true in
     record {
       within = omega (arith, below);
-      room = length-written c.fill-counts.ensures.written ∙ inv.room;
       lower =
           inv.lower
           ∙ lowest-holds _ _ _ _ below (sym row ∙ eq-eqb _ _ (sym c.part_product.ensures ∙ c.if-part_product-sums.false));
     }
 
-pub returns-then-k-end : goal.returns-then-k-end
-returns-then-k-end c =
-    sym (c.rows.invariant.lower ∙ lowest_end _ _ _ _ (c.if-k-end.true ∙ c.row_count-end.ensures.0))
-
 pub returns-then-part_product-sums : goal.returns-then-part_product-sums
 returns-then-part_product-sums c =
     let inv = c.rows.invariant in
-    let row = row_judged _ _ (filled_as c.form_at-form.ensures.0 c.fill-counts.ensures) _ _ c.loop-t.invariant.1 c.if-t-count.true in
+    let row = row_judged _ _ _ (filled_as _ _ _ c.form_at-form.ensures.0 c.fill.ensures) _ _ _ _ c.counts-counts.ensures c.loop-t.invariant.1 c.if-t-count.true in
     sym
     (inv.lower
     ∙ lowest_fails _ _ _ _ (row_below inv c.if-k-end.false c.row_count-end.ensures.0)

@@ -18,7 +18,7 @@ abbrev pub decreases-loop-t : goal.decreases-loop-t
 decreases-loop-t l = l.count - l.t
 
 abbrev pub invariant-rows : goal.invariant-rows
-invariant-rows l = Turn l.candidate.circuit l.candidate.assignment.now l.terms l.k
+invariant-rows l = Turn l.candidate.circuit l.candidate.assignment.now l.k
 
 abbrev pub decreases-rows : goal.decreases-rows
 decreases-rows l = row_count l.candidate.circuit - l.k
