@@ -1,31 +1,30 @@
--- What the answer about a line's bytes says: 16 names the place at which the search for a wrong byte stops; where it goes through all 63
--- places lane and axles decide.
+-- What the answer about a line's bytes says: 16 is asked of all 63 places, and behind that lane and axles decide.
 use Rattle.refusal.specs.declared.outcome.Refusal.{Refusal}
 use Rattle.refusal.specs.Refusals.{Outcome, done}
 use Rattle.std.specs.Prelude.{Err, Ok, Result}
-use mathlib.Core.Bool.{Bool, cond, false, true, true≢false, ◌||◌, and-eq-true_iff, not}
+use mathlib.Core.Bool.{Bool, false, true, true≢false, and-eq-true_iff, not}
 use mathlib.Core.List.{List}
 use mathlib.Core.Logic.Iff
 use mathlib.Core.Logic.{◌↔◌}
 use mathlib.Core.Path.{◌≡◌, ◌∙◌, ap, refl, sym}
 use Prim.Native.Nat.{ℕ, ◌+◌, ◌-◌, ◌<◌, ◌≤◌}
 use native.Mathlib.Omega.{arith}
-use borrow.Author.Tests.{eq-eqb, eqb-false, eqb-true, le-ltb, lt-ltb, ltb-false, ne_eqb}
+use borrow.Author.Tests.{eq-eqb, eqb-false, eqb-true, le-ltb, ltb-false, ne_eqb}
 use lib.Dec.{eqb, ltb}
 use lib.ListN.{get_or, length}
 use Rattle.encoding.proofs.Lowest as failing
 use Rattle.passage.proofs.Next.{neither}
 use Rattle.passage.proofs.Numerals.{number_below}
-use Rattle.passage.proofs.PlaceKinds.{run, run_allowed}
-use Rattle.passage.proofs.Stops.{Stops, lowest_stops, stopped}
+use Rattle.passage.proofs.PlaceKinds.{axles_run, class_run, lane_run, run_allowed, time_run}
+use Rattle.passage.proofs.Asked.{asked_all, asked_next}
 use Rattle.passage.specs.Format.{allowed_at, allows, axles, kind_at, lane, line_length, number_in}
 use Rattle.passage.specs.Front.{Fit}
-use Rattle.passage.specs.Read.{bytes_answer, line_answer, next, numbers_in, read_answer}
-use Rattle.passage.specs.Runs.{Digits, Run}
-use Rattle.passage.specs.declared.format.Kind.TheVariants.{Class, Comma, Digit}
+use Rattle.passage.specs.Read.{bytes_answer, line_answer, low_answer, next, numbers_in, read_answer}
+use Rattle.passage.specs.Runs.{Digits, Run, asked, wrong_at}
+use Rattle.passage.specs.declared.format.Kind.TheVariants.{Comma, Digit}
 use Rattle.passage.specs.declared.numbers.Numbers.{Numbers}
 use Rattle.refusal.proofs.Tests.{equal_iff, past, refused_done}
-use Rattle.refusal.specs.declared.outcome.Refusal.TheVariants.{LaneOrAxlesTooLow, LineNot63, WrongByte}
+use Rattle.refusal.specs.declared.outcome.Refusal.TheVariants.{LaneOrAxlesTooLow, LineNot63}
 use Rattle.text.specs.Decimal.{is_digit}
 use Rattle.text.specs.Text.{comma}
 
@@ -36,17 +35,11 @@ AllAllowed s = failing.AllHold (allowed_at s) 0 line_length
 module _ (s : List ℕ) where
   -- the answer past 16
   abbrev PastBytes : Outcome
-  PastBytes = cond (eqb (number_in lane s) 0 || ltb (number_in axles s) 2) (Err LaneOrAxlesTooLow) done
+  PastBytes = low_answer (number_in lane s) (number_in axles s)
 
-  abbrev wrong_at : ℕ → Outcome
-  wrong_at k = Err (WrongByte (record { 0 = k }))
-
-  pub bytes_wrong : (r : ℕ) → r < line_length → Stops (allowed_at s) 0 line_length r → bytes_answer s ≡ wrong_at r
+  pub bytes_parts : bytes_answer s ≡ next (asked (allowed_at s) 0 line_length) Err PastBytes
   unfolding bytes_answer
-  bytes_wrong r short at =
-      failing.by_lowest (allowed_at s) wrong_at (λ x. x ≡ wrong_at r) PastBytes 0 line_length
-      (λ all. absurd (true≢false (sym (all r (omega arith) short) ∙ at.fails short)))
-      (λ j low. ap wrong_at (stopped (lowest_stops low) ∙ sym (stopped at)))
+  bytes_parts = asked_next (allowed_at s) PastBytes 0 line_length
 
   -- where all bytes are allowed
   module _ (all : AllAllowed s) where
@@ -54,15 +47,8 @@ module _ (s : List ℕ) where
     unfolding bytes_answer
     past_bytes = failing.lowest-none (allowed_at s) wrong_at PastBytes 0 line_length all
 
-    pub no_lane : number_in lane s ≡ 0 → bytes_answer s ≡ Err LaneOrAxlesTooLow
-    no_lane none = past_bytes ∙ simp (eq-eqb (number_in lane s) 0 none)
-
-    module _ (some : number_in lane s ≡ 0 → ⊥) where
-      pub few_axles : number_in axles s < 2 → bytes_answer s ≡ Err LaneOrAxlesTooLow
-      few_axles few = past_bytes ∙ simp (ne_eqb (number_in lane s) 0 some, lt-ltb (number_in axles s) 2 few)
-
-      pub bytes_right : 2 ≤ number_in axles s → bytes_answer s ≡ done
-      bytes_right enough = past_bytes ∙ simp (ne_eqb (number_in lane s) 0 some, le-ltb (number_in axles s) 2 enough)
+    pub bytes_right : (number_in lane s ≡ 0 → ⊥) → 2 ≤ number_in axles s → bytes_answer s ≡ done
+    bytes_right some enough = past_bytes ∙ simp (ne_eqb (number_in lane s) 0 some, le-ltb (number_in axles s) 2 enough)
 
     -- the digits of the numbers
     run-digits : (at n : ℕ) → at + n ≤ line_length → Run Digit at (at + n) → Digits s at n
@@ -71,21 +57,21 @@ module _ (s : List ℕ) where
 
     pub lane-digits : Digits s 0 3
     unfolding kind_at
-    lane-digits = run-digits 0 3 (omega arith) (run Digit 0 3 refl)
+    lane-digits = run-digits 0 3 (omega arith) lane_run
 
     pub time-digits : Digits s 4 10
     unfolding kind_at
-    time-digits = run-digits 4 10 (omega arith) (run Digit 4 10 refl)
+    time-digits = run-digits 4 10 (omega arith) time_run
 
     pub class-digits : Digits s 15 1
     unfolding kind_at allows
     class-digits i l =
-        let asked = sym (run_allowed (run Class 15 1 refl) s (15 + i) (omega arith) (omega arith)) ∙ all (15 + i) (omega arith) (omega arith) in
+        let asked = sym (run_allowed class_run s (15 + i) (omega arith) (omega arith)) ∙ all (15 + i) (omega arith) (omega arith) in
         ((and-eq-true_iff (not (eqb (get_or s (15 + i) 0) 48)) (is_digit (get_or s (15 + i) 0))).0 asked).1
 
     pub axles-digits : Digits s 17 2
     unfolding kind_at
-    axles-digits = run-digits 17 2 (omega arith) (run Digit 17 2 refl)
+    axles-digits = run-digits 17 2 (omega arith) axles_run
 
     -- the commas
     pub comma-at : (k : ℕ) → k < line_length → kind_at k ≡ Comma → get_or s k 0 ≡ comma
@@ -126,9 +112,39 @@ module _ (s : List ℕ) where
   unfolding line_answer
   long_line e = simp (eq-eqb (length s) line_length e)
 
+  -- .. and past it 16 and 17
+  pub line_asked : length s ≡ line_length → line_answer s ≡ next (asked (allowed_at s) 0 line_length) Err PastBytes
+  line_asked e = long_line e ∙ bytes_parts
+
+  pub asked_lane : asked (allowed_at s) 0 line_length ≡ done → Digits s 0 3
+  asked_lane e = lane-digits (asked_all (allowed_at s) 0 line_length e)
+
+  pub asked_axles : asked (allowed_at s) 0 line_length ≡ done → Digits s 17 2
+  asked_axles e = axles-digits (asked_all (allowed_at s) 0 line_length e)
+
   pub line_right : (line_answer s ≡ done) ↔ ((length s ≡ line_length) × (bytes_answer s ≡ done))
   unfolding line_answer
   line_right = past (not (eqb (length s) line_length)) (Err LineNot63) (bytes_answer s) done (equal_iff (length s) line_length) (λ e. omega arith) Iff.rfl
+
+-- the digits of the numbers of a line that is not refused
+pub record NumbersStand (s : List ℕ) : Type 0 where
+  pub long : length s ≡ 63
+  pub of_lane : Digits s 0 3
+  pub of_time : Digits s 4 10
+  pub of_class : Digits s 15 1
+  pub of_axles : Digits s 17 2
+
+pub digits_read : (s : List ℕ) → line_answer s ≡ done → NumbersStand s
+digits_read s e =
+    let told = (line_right s).0 e in
+    let all = right_allowed s told.1 in
+    record {
+      long = told.0;
+      of_lane = lane-digits s all;
+      of_time = time-digits s all;
+      of_class = class-digits s all;
+      of_axles = axles-digits s all;
+    }
 
 -- What is read.
 abbrev is_given : Result Numbers Refusal → Bool

@@ -11,13 +11,13 @@ use lib.Dec.{eqb}
 use lib.ListN.{get_or, length}
 use Rattle.passage.proofs.Answers.{AllAllowed, axles-digits, bytes_right, class-digits, comma-at, done_read, lane-digits, line_right, long_line, read_done, right_allowed, right_axles, right_lane, time-digits}
 use Rattle.passage.proofs.ByParts.{by_parts}
-use Rattle.passage.proofs.PlaceKinds.{plate-first, plate-next, run, run_allowed}
+use Rattle.passage.proofs.PlaceKinds.{axles_run, blind_run, first_run, lane_run, next_run, run_allowed, time_run}
 use Rattle.passage.proofs.Plates.{form-first, form-follows, plate-form}
 use Rattle.passage.specs.Exact.{Every, PassageLine, ReadExactly}
 use Rattle.passage.specs.Format.{allowed_at, allows, follows, is_plate_byte, kind_at, number_from}
 use Rattle.passage.specs.Read.{bytes_answer, numbers_in, read_answer}
 use Rattle.passage.specs.Runs.{Run}
-use Rattle.passage.specs.declared.format.Kind.TheVariants.{Comma, Digit, Hex}
+use Rattle.passage.specs.declared.format.Kind.TheVariants.{Comma, Digit}
 use Rattle.text.proofs.Digits.{digit_bounds}
 use Rattle.text.specs.Decimal.{is_digit}
 use Rattle.text.specs.Hex.{is_hex}
@@ -46,10 +46,10 @@ module _ (s : List ℕ) (form : PassageLine s) where
 
   plate_allowed : (i : ℕ) → i < 10 → allowed_at s (20 + i) ≡ true
   unfolding allows
-  plate_allowed zero l = run_allowed plate-first s 20 (omega arith) (omega arith) ∙ form-first s 20 form.plate-form
+  plate_allowed zero l = run_allowed first_run s 20 (omega arith) (omega arith) ∙ form-first s 20 form.plate-form
   plate_allowed (suc i) l =
       let before : 20 + suc i - 1 ≡ 20 + i = omega arith in
-      run_allowed plate-next s (20 + suc i) (omega arith) (omega arith)
+      run_allowed next_run s (20 + suc i) (omega arith) (omega arith)
       ∙ ap (λ k. follows (get_or s k 0) (get_or s (20 + suc i) 0)) before
       ∙ form-follows s 20 form.plate-form i l
 
@@ -59,19 +59,19 @@ module _ (s : List ℕ) (form : PassageLine s) where
 
   blind_allowed : (i : ℕ) → i < 32 → allowed_at s (31 + i) ≡ true
   unfolding kind_at allows
-  blind_allowed i l = run_allowed (run Hex 31 32 refl) s (31 + i) (omega arith) (omega arith) ∙ form.blind-digits i l
+  blind_allowed i l = run_allowed blind_run s (31 + i) (omega arith) (omega arith) ∙ form.blind-digits i l
 
   all_allowed : AllAllowed s
   unfolding kind_at
   all_allowed k low =
       by_parts (λ k. allowed_at s k ≡ true)
-      (digits_allowed 0 3 (run Digit 0 3 refl) form.lane-digits)
+      (digits_allowed 0 3 lane_run form.lane-digits)
       (comma_allowed 3 refl form.comma_3)
-      (digits_allowed 4 10 (run Digit 4 10 refl) form.time-digits)
+      (digits_allowed 4 10 time_run form.time-digits)
       (comma_allowed 14 refl form.comma_14)
       class_allowed
       (comma_allowed 16 refl form.comma_16)
-      (digits_allowed 17 2 (run Digit 17 2 refl) form.axles-digits)
+      (digits_allowed 17 2 axles_run form.axles-digits)
       (comma_allowed 19 refl form.comma_19)
       plate_allowed
       (comma_allowed 30 refl form.comma_30)
@@ -98,19 +98,19 @@ module _ (s : List ℕ) (long : length s ≡ 63) (right : bytes_answer s ≡ don
 
   plate_letter : is_plate_byte (get_or s 20 0) ≡ true
   unfolding allows
-  plate_letter = sym (run_allowed plate-first s 20 (omega arith) (omega arith)) ∙ all 20 (omega arith) (omega arith)
+  plate_letter = sym (run_allowed first_run s 20 (omega arith) (omega arith)) ∙ all 20 (omega arith) (omega arith)
 
   plate-follows : (i : ℕ) → suc i < 10 → follows (get_or s (20 + i) 0) (get_or s (20 + suc i) 0) ≡ true
   unfolding allows
   plate-follows i l =
       let before : 20 + i ≡ 20 + suc i - 1 = omega arith in
       ap (λ k. follows (get_or s k 0) (get_or s (20 + suc i) 0)) before
-      ∙ sym (run_allowed plate-next s (20 + suc i) (omega arith) (omega arith))
+      ∙ sym (run_allowed next_run s (20 + suc i) (omega arith) (omega arith))
       ∙ all (20 + suc i) (omega arith) (omega arith)
 
   blind-hex : Every is_hex s 31 32
   unfolding kind_at allows
-  blind-hex i l = sym (run_allowed (run Hex 31 32 refl) s (31 + i) (omega arith) (omega arith)) ∙ all (31 + i) (omega arith) (omega arith)
+  blind-hex i l = sym (run_allowed blind_run s (31 + i) (omega arith) (omega arith)) ∙ all (31 + i) (omega arith) (omega arith)
 
   read-form : PassageLine s
   unfolding kind_at

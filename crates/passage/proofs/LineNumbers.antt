@@ -9,11 +9,11 @@ use native.Mathlib.Omega.{arith}
 use borrow.Author.Tests.{ltb-true}
 use lib.Dec.{ltb}
 use lib.ListN.{get_or}
-use Rattle.passage.proofs.Answers.{AllAllowed}
+use Rattle.encoding.proofs.Lowest.{AllHold}
 use Rattle.passage.proofs.LineParts.{Part, axles_part, class_part, lane_part, part_at, time_part}
 use Rattle.passage.proofs.Numerals.{number-numeral, number_same}
 use Rattle.passage.proofs.Values.{values}
-use Rattle.passage.specs.Format.{axles, class, lane, number_from, number_in, time}
+use Rattle.passage.specs.Format.{allowed_at, axles, class, lane, number_from, number_in, time}
 use Rattle.passage.specs.Front.{Fit}
 use Rattle.passage.specs.Write.{line_of, numeral}
 use Rattle.passage.specs.declared.numbers.Numbers.{Numbers}
@@ -24,7 +24,7 @@ number_in_lem m x {s} {at} part below =
     ∙ number-numeral m x below
 
 module _ (n : Numbers) (p b : List ℕ) where
-  pub allowed_fit : AllAllowed (line_of n p b) → Fit n
+  pub allowed_fit : AllHold (allowed_at (line_of n p b)) 0 20 → Fit n
   allowed_fit all = (
     ltb-true _ _ (sym (values.of_lane n p b) ∙ all 0 (omega arith) (omega arith)),
     ltb-true _ _ (sym (values.of_time n p b) ∙ all 4 (omega arith) (omega arith)),

@@ -27,7 +27,7 @@ module _ {s : List ℕ} {at m : ℕ} {xs rest : List ℕ} (part : Part s at m xs
   part_comma = sym (get_or-drop at s m 0) ∙ ap (λ t. get_or t m 0) part.stands ∙ get_or_at xs comma rest 0 m part.size
 
   -- what stands behind the comma
-  part_behind : drop (at + (m + 1)) s ≡ rest
+  pub part_behind : drop (at + (m + 1)) s ≡ rest
   part_behind =
       sym (drop-drop (m + 1) at s)
       ∙ ap (drop (m + 1)) (part.stands ∙ sym (append_assoc xs (comma ∷ []) rest))

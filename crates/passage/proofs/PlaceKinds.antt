@@ -4,14 +4,13 @@ use mathlib.Core.Bool.{Bool, and-eq-true_iff, cond, true, ◌&&◌}
 use mathlib.Core.List.{List}
 use mathlib.Core.Logic.{by_cases}
 use mathlib.Core.Path.{◌≡◌, ◌∙◌, ap, refl, subst, sym}
-use Prim.Native.Nat.{ℕ, zero, suc, ◌+◌, ◌-◌, ◌<◌, ◌≤◌}
+use Prim.Native.Nat.{ℕ, zero, suc, ◌+◌, ◌<◌, ◌≤◌}
 use native.Mathlib.Decide.{dec_lt}
 use native.Mathlib.Omega.{arith}
-use borrow.Author.Tests.{eq-eqb, eqb-true, ne_eqb}
+use borrow.Author.Tests.{eqb-true}
 use lib.Dec.{eqb}
-use lib.ListN.{get_or}
-use Rattle.passage.specs.Format.{allowed_at, allows, fits, kind_at}
-use Rattle.passage.specs.Runs.{Run, plate_fits}
+use Rattle.passage.specs.Format.{allowed_at, fits, kind_at}
+use Rattle.passage.specs.Runs.{Run}
 use Rattle.passage.specs.declared.format.Kind.TheVariants.{Digit, Class, PlateFirst, PlateNext, Hex, Comma}
 use Rattle.passage.specs.declared.format.Kind.{Kind}
 
@@ -56,32 +55,39 @@ pub run_allowed : {kind : Kind} {from to : ℕ} → Run kind from to → (s : Li
     → allowed_at s k ≡ fits kind s k
 run_allowed places s k low high = ap (λ kind. fits kind s k) (places k low high)
 
--- the plate's places
-pub plate-first : Run PlateFirst 20 21
+-- the runs of a line, field by field
+pub lane_run : Run Digit 0 3
 unfolding kind_at
-plate-first = run PlateFirst 20 1 refl
+lane_run = run Digit 0 3 refl
 
-pub plate-next : Run PlateNext 21 30
+pub time_run : Run Digit 4 14
 unfolding kind_at
-plate-next = run PlateNext 21 9 refl
+time_run = run Digit 4 10 refl
 
-pub plate_allowed : (s : List ℕ) (k : ℕ) → 20 ≤ k → k < 30 → allowed_at s k ≡ plate_fits 20 s k
-plate_allowed s k low high =
-    by_cases (dec_lt 20 k)
-    (λ past.
-    run_allowed plate-next s k past high
-    ∙ sym (ap (λ t. cond t (fits PlateFirst s k) (fits PlateNext s k)) (ne_eqb k 20 (λ e. absurd (omega arith)))))
-    (λ here.
-    run_allowed plate-first s k low (omega arith)
-    ∙ sym (ap (λ t. cond t (fits PlateFirst s k) (fits PlateNext s k)) (eq-eqb k 20 (omega arith))))
+pub class_run : Run Class 15 16
+unfolding kind_at
+class_run = run Class 15 1 refl
 
--- .. asked by themselves
-pub plate_kind : (p : List ℕ) (i : ℕ) → i < 10 → allows (kind_at (20 + i)) (get_or p (i - 1) 0) (get_or p i 0) ≡ plate_fits 0 p i
-plate_kind p i l =
-    by_cases (dec_lt 0 i)
-    (λ past.
-    ap (λ kind. fits kind p i) (plate-next (20 + i) (omega arith) (omega arith))
-    ∙ sym (ap (λ t. cond t (fits PlateFirst p i) (fits PlateNext p i)) (ne_eqb i 0 (λ e. absurd (omega arith)))))
-    (λ here.
-    ap (λ kind. fits kind p i) (plate-first (20 + i) (omega arith) (omega arith))
-    ∙ sym (ap (λ t. cond t (fits PlateFirst p i) (fits PlateNext p i)) (eq-eqb i 0 (omega arith))))
+pub axles_run : Run Digit 17 19
+unfolding kind_at
+axles_run = run Digit 17 2 refl
+
+pub first_run : Run PlateFirst 20 21
+unfolding kind_at
+first_run = run PlateFirst 20 1 refl
+
+pub next_run : Run PlateNext 21 30
+unfolding kind_at
+next_run = run PlateNext 21 9 refl
+
+pub comma_run : Run Comma 30 31
+unfolding kind_at
+comma_run = run Comma 30 1 refl
+
+pub blind_run : Run Hex 31 63
+unfolding kind_at
+blind_run = run Hex 31 32 refl
+
+-- one place
+pub run_one : {kind : Kind} {k : ℕ} → kind_at k ≡ kind → Run kind k (k + 1)
+run_one {kind} {k} e i low high = let same : k ≡ i = omega arith in subst (λ j. kind_at j ≡ kind) same e

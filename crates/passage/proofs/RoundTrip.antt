@@ -44,9 +44,9 @@ write_done n p b room =
 -- the line at the front of the buffer
 left-line : (n : Numbers) (p b out : List ℕ) → write_answer n p b (length out) ≡ done → line_left n p b out ≡ line_of n p b
 left-line n p b out e =
-    let done = (write_done n p b (length out)).0 e in
+    let told = (write_done n p b (length out)).0 e in
     ap (λ r. take line_length (write_left r n p b out)) e
-    ∙ take_at (line_of n p b) (drop line_length out) line_length (length-line n p b done.0 done.1.0)
+    ∙ take_at (line_of n p b) (drop line_length out) line_length (length-line n p b told.0 told.1.0)
 
 abbrev numbers : ℕ → ℕ → ℕ → ℕ → Numbers
 numbers l t c a = record { lane = l; time = t; class = c; axles = a }
@@ -54,7 +54,7 @@ numbers l t c a = record { lane = l; time = t; class = c; axles = a }
 -- Reading what was written.
 module _ (n : Numbers) (p b : List ℕ) (long-p : length p ≡ 10) (long-b : length b ≡ 32) (right : bytes_answer (line_of n p b) ≡ done) where
   abbrev fit : Fit n
-  fit = allowed_fit n p b (right_allowed (line_of n p b) right)
+  fit = allowed_fit n p b (λ i low high. right_allowed (line_of n p b) right i low (omega arith))
 
   numbers_back : numbers_in (line_of n p b) ≡ n
   unfolding numbers_in
@@ -124,21 +124,21 @@ pub round_trip : RoundTrip
 round_trip =
     record {
       read-written = λ n p b out e.
-          let done = (write_done n p b (length out)).0 e in
+          let told = (write_done n p b (length out)).0 e in
           let line = left-line n p b out e in (
-            ap read_answer line ∙ read_back n p b done.0 done.1.0 done.1.1.0,
-            ap (bytes_in plate) line ∙ plate_back n p b done.0 done.1.0 done.1.1.0,
-            ap (bytes_in blind) line ∙ blind_back n p b done.0 done.1.0 done.1.1.0,
+            ap read_answer line ∙ read_back n p b told.0 told.1.0 told.1.1.0,
+            ap (bytes_in plate) line ∙ plate_back n p b told.0 told.1.0 told.1.1.0,
+            ap (bytes_in blind) line ∙ blind_back n p b told.0 told.1.0 told.1.1.0,
           );
       written_read = λ s n out e room.
           let read = read_done s n e in
           let told = (line_right s).0 read.0 in
           let line = line-again s told.0 told.1 in
-          let done : write_answer (numbers_in s) (bytes_in plate s) (bytes_in blind s) (length out) ≡ done =
+          let written : write_answer (numbers_in s) (bytes_in plate s) (bytes_in blind s) (length out) ≡ done =
           (write_done (numbers_in s) (bytes_in plate s) (bytes_in blind s) (length out)).1
           (long_plate s told.0 told.1, (long_blind s told.0 told.1, (ap bytes_answer line ∙ told.1, simp (le-ltb (length out) 63 room)))) in
           subst
           (λ m. (write_answer m (bytes_in plate s) (bytes_in blind s) (length out) ≡ done) × (line_left m (bytes_in plate s) (bytes_in blind s) out ≡ s))
           read.1
-          (done, left-line (numbers_in s) (bytes_in plate s) (bytes_in blind s) out done ∙ line);
+          (written, left-line (numbers_in s) (bytes_in plate s) (bytes_in blind s) out written ∙ line);
     }

@@ -1,7 +1,6 @@
 -- A line that is sealed is a record of 504 bits, and what `seal` leaves is what digest and producer leave of it; so demand 3's last
 -- sentence says that it is accepted.
 use Rattle.refusal.specs.Refusals.{done}
-use Rattle.std.specs.Prelude.{Ok}
 use mathlib.Core.List.{List}
 use mathlib.Core.Path.{◌≡◌, ◌∙◌, ap, sym}
 use Prim.Native.Nat.{ℕ, ◌*◌, ◌≤◌}

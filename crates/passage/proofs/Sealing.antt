@@ -1,9 +1,9 @@
--- A line that is not refused is a record of 504 bits, and it fills its bytes. So where both buffers are long enough neither the digest nor
--- the producer refuses, and `seal` answers as they do.
+-- A line that is not refused is a record of 504 bits, and it fills its bytes. So neither the digest nor the producer refuses more than a buffer
+-- that is too short, and `seal` answers as they do.
 use Rattle.refusal.specs.Refusals.{Outcome, done}
-use Rattle.std.specs.Prelude.{Err, Ok}
+use Rattle.std.specs.Prelude.{Err}
 use mathlib.Core.List.{List}
-use mathlib.Core.Path.{◌≡◌, ◌∙◌, refl}
+use mathlib.Core.Path.{◌≡◌, ◌∙◌, refl, sym}
 use Prim.Native.Nat.{ℕ, ◌*◌, ◌<◌, ◌≤◌}
 use native.Mathlib.Omega.{arith}
 use borrow.Author.Tests.{eq-eqb, le-ltb, lt-ltb}
@@ -16,6 +16,7 @@ use Rattle.encoding.specs.Packed.{spare_bits}
 use Rattle.limits.specs.Blocks.{blocks}
 use Rattle.limits.specs.Handed.{IsRecord, handed_answer, record_bytes_answer}
 use Rattle.limits.specs.Limit.{Allows, allowance, partner_limit}
+use Rattle.passage.proofs.Answers.{line_right}
 use Rattle.passage.specs.Format.{line_length}
 use Rattle.passage.specs.Read.{line_answer}
 use Rattle.passage.specs.Seal.{line_bits, seal_answer}
@@ -23,11 +24,6 @@ use Rattle.record.specs.Produce.{produce_answer}
 use Rattle.refusal.specs.declared.outcome.Refusal.TheVariants.{BufferTooShort}
 use Rattle.refusal.specs.declared.outcome.Refusal.{Refusal}
 use Rattle.sm3.specs.Digest.{digest_answer}
-
--- 8 bytes a wire
-pub assignment_bytes : 8 * wire_count (Record line_bits) ≡ 364552
-unfolding wire_count blocks
-assignment_bytes = refl
 
 pub line_record : (s : List ℕ) → Bytes s → length s ≡ line_length → IsRecord line_bits s
 unfolding spare_bits number
@@ -42,28 +38,25 @@ handed_line : (s : List ℕ) (more : Outcome) → length s ≡ line_length → h
 unfolding handed_answer allowance blocks record_bytes_answer spare_bits number
 handed_line s more long = simp (eq-eqb (length s) line_length long)
 
-pub line_digested : (s : List ℕ) (room : ℕ) → length s ≡ line_length → 32 ≤ room → digest_answer partner_limit line_bits s room ≡ done
-line_digested s room long enough = handed_line s _ long ∙ simp (le-ltb room 32 enough)
+-- so the digest is not refused
+pub line_digested : (s : List ℕ) (room : ℕ) → line_answer s ≡ done → 32 ≤ room → digest_answer partner_limit line_bits s room ≡ done
+line_digested s room right enough = handed_line s _ ((line_right s).0 right).0 ∙ simp (le-ltb room 32 enough)
 
 pub line_produced : (s : List ℕ) (room : ℕ) → length s ≡ line_length → 8 * wire_count (Record line_bits) ≤ room
     → produce_answer partner_limit line_bits s room ≡ done
 line_produced s room long enough = handed_line s _ long ∙ simp (le-ltb room (8 * wire_count (Record line_bits)) enough)
 
 module _ (s : List ℕ) (digestRoom assignmentRoom : ℕ) where
-  pub seal-refused : (r : Refusal) → line_answer s ≡ Err r → seal_answer s digestRoom assignmentRoom ≡ Err r
+  pub seal_refused : (r : Refusal) → line_answer s ≡ Err r → seal_answer s digestRoom assignmentRoom ≡ Err r
   unfolding seal_answer
-  seal-refused r e = simp e
+  seal_refused r e = simp e
 
-  module _ (e : line_answer s ≡ done) where
+  module _ (right : line_answer s ≡ done) where
     pub digest_short : digestRoom < 32 → seal_answer s digestRoom assignmentRoom ≡ Err BufferTooShort
     unfolding seal_answer
-    digest_short short = simp (e, lt-ltb digestRoom 32 short)
+    digest_short short = simp (right, lt-ltb digestRoom 32 short)
 
-    module _ (enough : 32 ≤ digestRoom) where
-      pub assignment_short : assignmentRoom < 8 * wire_count (Record line_bits) → seal_answer s digestRoom assignmentRoom ≡ Err BufferTooShort
-      unfolding seal_answer
-      assignment_short short = simp (e, le-ltb digestRoom 32 enough, lt-ltb assignmentRoom (8 * wire_count (Record line_bits)) short)
-
-      pub line_sealed : 8 * wire_count (Record line_bits) ≤ assignmentRoom → seal_answer s digestRoom assignmentRoom ≡ done
-      unfolding seal_answer
-      line_sealed room = simp (e, le-ltb digestRoom 32 enough, le-ltb assignmentRoom (8 * wire_count (Record line_bits)) room)
+    -- past both the producer decides
+    pub seal_produced : 32 ≤ digestRoom → seal_answer s digestRoom assignmentRoom ≡ produce_answer partner_limit line_bits s assignmentRoom
+    unfolding seal_answer
+    seal_produced enough = simp (right, le-ltb digestRoom 32 enough) (sym (handed_line s _ ((line_right s).0 right).0))

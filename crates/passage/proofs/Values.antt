@@ -15,12 +15,12 @@ use lib.Seq.{get_or-drop}
 use Rattle.encoding.proofs.Lowest.{AllHold}
 use Rattle.passage.proofs.LineParts.{Part, axles_part, blind_part, class_part, lane_part, part_at, part_comma, plate_part, time_part}
 use Rattle.passage.proofs.Numerals.{digits_behind, first-digit, no_first_digit}
-use Rattle.passage.proofs.PlaceKinds.{run, run_allowed}
+use Rattle.passage.proofs.PlaceKinds.{axles_run, blind_run, class_run, lane_run, run_allowed, time_run}
 use Rattle.passage.specs.Format.{allowed_at, allows, is_plate_byte, kind_at}
 use Rattle.passage.specs.Runs.{Run}
 use Rattle.passage.specs.Values.{Values}
 use Rattle.passage.specs.Write.{line_of, numeral}
-use Rattle.passage.specs.declared.format.Kind.TheVariants.{Class, Comma, Digit, Hex}
+use Rattle.passage.specs.declared.format.Kind.TheVariants.{Comma, Digit}
 use Rattle.passage.specs.declared.numbers.Numbers.{Numbers}
 use Rattle.text.specs.Decimal.{digit, is_digit}
 use Rattle.text.specs.Hex.{is_hex}
@@ -74,30 +74,30 @@ module _ (n : Numbers) (p b : List ℕ) where
 
   lane_first : allowed_at line 0 ≡ ltb n.lane (10 ^ 3)
   unfolding kind_at
-  lane_first = number-first 2 n.lane (lane_part n p b) (run Digit 0 3 refl)
+  lane_first = number-first 2 n.lane (lane_part n p b) lane_run
 
   time-first : allowed_at line 4 ≡ ltb n.time (10 ^ 10)
   unfolding kind_at
-  time-first = number-first 9 n.time (time_part n p b) (run Digit 4 10 refl)
+  time-first = number-first 9 n.time (time_part n p b) time_run
 
   class-first : allowed_at line 15 ≡ (ltb 0 n.class && ltb n.class (10 ^ 1))
   unfolding kind_at allows
   class-first =
-      run_allowed (run Class 15 1 refl) line 15 (omega arith) (omega arith)
+      run_allowed class_run line 15 (omega arith) (omega arith)
       ∙ ap (λ c. not (eqb c 48) && is_digit c) (part_at (class_part n p b) 0 (omega arith))
       ∙ class-digit n.class
 
   axles-first : allowed_at line 17 ≡ ltb n.axles (10 ^ 2)
   unfolding kind_at
-  axles-first = number-first 1 n.axles (axles_part n p b) (run Digit 17 2 refl)
+  axles-first = number-first 1 n.axles (axles_part n p b) axles_run
 
   lane_behind : (k : ℕ) → 0 < k → k < 4 → allowed_at line k ≡ true
   unfolding kind_at
-  lane_behind = number_behind 2 n.lane (lane_part n p b) (run Digit 0 3 refl) refl
+  lane_behind = number_behind 2 n.lane (lane_part n p b) lane_run refl
 
   time_behind : (k : ℕ) → 4 < k → k < 15 → allowed_at line k ≡ true
   unfolding kind_at
-  time_behind = number_behind 9 n.time (time_part n p b) (run Digit 4 10 refl) refl
+  time_behind = number_behind 9 n.time (time_part n p b) time_run refl
 
   class_behind : allowed_at line 16 ≡ true
   unfolding kind_at
@@ -105,7 +105,7 @@ module _ (n : Numbers) (p b : List ℕ) where
 
   axles_behind : (k : ℕ) → 17 < k → k < 20 → allowed_at line k ≡ true
   unfolding kind_at
-  axles_behind = number_behind 1 n.axles (axles_part n p b) (run Digit 17 2 refl) refl
+  axles_behind = number_behind 1 n.axles (axles_part n p b) axles_run refl
 
   numbers_behind : (k : ℕ) → k < 20 → (k ≡ 0 → ⊥) → (k ≡ 4 → ⊥) → (k ≡ 15 → ⊥) → (k ≡ 17 → ⊥) → allowed_at line k ≡ true
   numbers_behind k l not-0 not-4 not-15 not-17 =
@@ -139,7 +139,7 @@ module _ (n : Numbers) (p b : List ℕ) where
     blind-byte : (i : ℕ) → i < 32 → allowed_at line (31 + i) ≡ is_hex (get_or b i 0)
     unfolding kind_at allows
     blind-byte i l =
-        run_allowed (run Hex 31 32 refl) line (31 + i) (omega arith) (omega arith)
+        run_allowed blind_run line (31 + i) (omega arith) (omega arith)
         ∙ ap is_hex (sym (get_or-drop 31 line i 0) ∙ ap (λ t. get_or t i 0) (blind_part n p b long))
 
 -- The fields of numbers that fit their digits.

@@ -4,14 +4,10 @@
 use Rattle.std.specs.Prelude.{Bool, cond, not, ◌&&◌, ◌||◌, List, ℕ, zero, suc, ◌+◌, ◌-◌, ◌*◌, eqb, leb, ltb, drop, get_or, take}
 use Rattle.passage.specs.declared.format.Kind.TheVariants.{Digit, Class, PlateFirst, PlateNext, Hex, Comma}
 use Rattle.passage.specs.declared.format.Kind.{Kind}
+use Rattle.passage.specs.declared.places.Field.{Field}
 use Rattle.text.specs.Decimal.{is_digit, is_digit_or}
 use Rattle.text.specs.Hex.{is_hex}
 use Rattle.text.specs.Text.{comma, hyphen}
-
--- a field: its first place in the line, from 0, and how many places it has
-pub record Field : Type 0 where
-  pub first : ℕ
-  pub many : ℕ
 
 -- "lane (3 digits, from 001)"
 abbrev pub lane : Field

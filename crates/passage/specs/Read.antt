@@ -12,13 +12,17 @@ abbrev pub next : {A : Type 0} → Outcome → (Refusal → A) → A → A
 next (Ok _) refuse goOn = goOn
 next (Err r) refuse goOn = refuse r
 
+-- "17, lane 000 or axles below 02"
+abbrev pub low_answer : ℕ → ℕ → Outcome
+low_answer lane axles = cond (eqb lane 0 || ltb axles 2) (Err LaneOrAxlesTooLow) done
+
 -- 16 and 17: the answer about the 63 bytes of a line
 unfoldable pub bytes_answer : List ℕ → Outcome
 bytes_answer s =
     -- "16, a byte .. that its place does not allow (lowest byte returned, from 0 ..), after 15"
     lowest_failing (allowed_at s) (λ k. Err (WrongByte (record { 0 = k })))
-    -- "17, lane 000 or axles below 02, after 16"
-    (cond (eqb (number_in lane s) 0 || ltb (number_in axles s) 2) (Err LaneOrAxlesTooLow) done)
+    -- 17, "after 16"
+    (low_answer (number_in lane s) (number_in axles s))
     0 line_length
 
 -- what is asked of a line that is handed over

@@ -1,19 +1,19 @@
--- Devices of the contracts of private functions, on which no public contract rests: runs of places that are looked at one after the
--- other.
-use Rattle.std.specs.Prelude.{Bool, cond, true, List, ◌≡◌, ℕ, ◌+◌, ◌-◌, ◌≤◌, ◌<◌, eqb, get_or}
+-- Devices of the contracts of private functions, on which no public contract rests: places that stand one after the other.
+use Rattle.std.specs.Prelude.{Bool, true, List, ◌≡◌, ℕ, ◌+◌, ◌≤◌, ◌<◌, get_or, Err}
 use Rattle.encoding.specs.Lowest.{lowest_failing}
-use Rattle.passage.specs.Format.{fits, kind_at}
-use Rattle.passage.specs.declared.format.Kind.TheVariants.{PlateFirst, PlateNext}
+use Rattle.passage.specs.Format.{kind_at}
 use Rattle.passage.specs.declared.format.Kind.{Kind}
+use Rattle.refusal.specs.Refusals.{Outcome, done}
+use Rattle.refusal.specs.declared.outcome.Refusal.TheVariants.{WrongByte}
 use Rattle.text.specs.Decimal.{is_digit}
 
--- the lowest place from `from` on and below `to` at which the test fails, or `to`
-abbrev pub lowest_from : (ℕ → Bool) → ℕ → ℕ → ℕ
-lowest_from holds from to = lowest_failing holds (λ k. k) to from (to - from)
+-- refusal 16 of place k
+abbrev pub wrong_at : ℕ → Outcome
+wrong_at k = Err (WrongByte (record { 0 = k }))
 
--- whether the byte at place k may stand in a plate that begins at `first`
-abbrev pub plate_fits : ℕ → List ℕ → ℕ → Bool
-plate_fits first s k = cond (eqb k first) (fits PlateFirst s k) (fits PlateNext s k)
+-- .. of the lowest of the m places from k on at which the test fails, or none
+abbrev pub asked : (ℕ → Bool) → ℕ → ℕ → Outcome
+asked holds k m = lowest_failing holds wrong_at done k m
 
 -- the places from `from` on and below `to` have one kind
 abbrev pub Run : Kind → ℕ → ℕ → Type 0

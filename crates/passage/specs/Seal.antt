@@ -1,7 +1,7 @@
 -- The answer of `seal` and the bytes that it leaves in its two buffers, and the answer of `check` (document 02, request 3: "It seals a
 -- line, giving its digest and its assignment, and checks an assignment of a line's length against a digest by document 01's check").
 use Rattle.refusal.specs.Refusals.{Outcome, done}
-use Rattle.std.specs.Prelude.{cond, ◌||◌, List, ℕ, ◌*◌, ltb, Err, Ok}
+use Rattle.std.specs.Prelude.{cond, ◌||◌, List, ℕ, ◌*◌, ltb, Err}
 use Rattle.circuit.specs.Wires.{wire_count}
 use Rattle.circuit.specs.declared.circuits.Circuit.TheVariants.{Record}
 use Rattle.limits.specs.Limit.{partner_limit}

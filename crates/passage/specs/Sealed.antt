@@ -1,7 +1,7 @@
 -- What `seal` leaves of a line is accepted by `check` against the digest that it leaves: said of the bytes that the two calls leave and of
 -- the definitions that their contracts cite.
 use Rattle.refusal.specs.Refusals.{done}
-use Rattle.std.specs.Prelude.{List, ◌≡◌, ℕ, ◌*◌, length, take, Ok}
+use Rattle.std.specs.Prelude.{List, ◌≡◌, ℕ, ◌*◌, length, take}
 use Rattle.circuit.specs.Wires.{wire_count}
 use Rattle.circuit.specs.declared.circuits.Circuit.TheVariants.{Record}
 use Rattle.encoding.specs.Bytes.{Bytes}

@@ -1,5 +1,5 @@
 -- The answer of `write` and the bytes that it leaves (document 02, request 3).
-use Rattle.std.specs.Prelude.{cond, not, List, [], ◌∷◌, ◌++◌, ℕ, zero, suc, ◌/◌, ◌%◌, eqb, ltb, drop, length, Err, Ok}
+use Rattle.std.specs.Prelude.{cond, not, List, [], ◌∷◌, ◌++◌, ℕ, zero, suc, ◌/◌, ◌%◌, eqb, ltb, drop, length, Err}
 use Rattle.passage.specs.Format.{axles, blind, class, lane, line_length, plate, time}
 use Rattle.passage.specs.Read.{bytes_answer, next}
 use Rattle.passage.specs.declared.numbers.Numbers.{Numbers}

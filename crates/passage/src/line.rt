@@ -1,80 +1,85 @@
 // What is asked of a line before anything is made of it.
-ghost use Rattle.std.specs.Prelude.{◌≡◌, ◌+◌, ◌<◌, length};
+ghost use Rattle.std.specs.Prelude.{◌≡◌, ◌+◌, ◌<◌, ◌≤◌, length};
 ghost use Rattle.passage.specs.Format.{allowed_at, kind_at};
-ghost use Rattle.passage.specs.Read.{line_answer};
-ghost use Rattle.passage.specs.Runs.{Run, lowest_from};
+ghost use Rattle.passage.specs.Read.{bytes_answer, line_answer, low_answer};
+ghost use Rattle.passage.specs.Runs.{Run, asked};
 ghost use Rattle.passage.specs.declared.format.Kind.TheVariants.{Comma};
 
-use crate::format::{Kind, lowest_misfit, wrong_in_plate};
-use crate::numbers::number_from;
+use crate::format::Kind;
+use crate::numbers::{ask_low, number_in};
 use crate::places::{
-    AXLES, AXLES_DIGITS, BLIND, CLASS, CLASS_DIGITS, LANE, LANE_DIGITS, LAST_COMMA, LINE_LENGTH,
-    PLATE, TIME, TIME_DIGITS,
+    AXLES, BLIND, CLASS, Field, LANE, LAST_COMMA, LINE_LENGTH, PLATE_FIRST, PLATE_NEXT, TIME,
 };
 use refusal::numbers::ByteNumber;
 use refusal::outcome::Refusal;
 
-// The lowest wrong place of a field whose n places are of one kind and of the comma behind it, or the place behind both.
-fn wrong_in_field(kind: Kind, line: &[u8], first: usize, n: usize) -> usize
-    requires { (first + n < length line.now) × Run kind first (first + n) × (kind_at (first + n) ≡ Comma) }
-    ensures { result ≡ lowest_from (allowed_at line.now) first (first + n + 1) }
+// Refusal 16 of the lowest wrong place of a field, whose places are of one kind, or none.
+fn ask_run(kind: Kind, line: &[u8], field: Field) -> Result<(), Refusal>
+    requires room { field.first + field.many ≤ length line.now }
+    requires kind { Run kind field.first (field.first + field.many) }
+    ensures { result ≡ asked (allowed_at line.now) field.first field.many }
 {
-    let end = first + n;
-    let k = lowest_misfit(kind, line, first, end);
-    if k < end {
-        return k;
+    for k in field.first..field.first + field.many {
+        if !kind.allows(line[k.saturating_sub(1)], line[k]) {
+            return Err(Refusal::WrongByte(ByteNumber(k as u64)));
+        }
     }
-    lowest_misfit(Kind::Comma, line, end, end + 1)
+    Ok(())
 }
 
-// The lowest wrong place of a line, or 63.
-fn wrong_in_line(line: &[u8]) -> usize
-    requires { length line.now ≡ 63 }
-    ensures { result ≡ lowest_from (allowed_at line.now) 0 63 }
+// .. of a field or of the comma behind it.
+#[tactic(auto, using(crate::proofs::Asked::asked_parts, crate::proofs::PlaceKinds::run_one))]
+fn ask_field(kind: Kind, line: &[u8], field: Field) -> Result<(), Refusal>
+    requires room { field.first + field.many < length line.now }
+    requires kind { Run kind field.first (field.first + field.many) }
+    requires comma { kind_at (field.first + field.many) ≡ Comma }
+    ensures { result ≡ asked (allowed_at line.now) field.first (field.many + 1) }
 {
-    let lane = wrong_in_field(Kind::Digit, line, LANE, LANE_DIGITS);
-    if lane < TIME {
-        return lane;
-    }
-    let time = wrong_in_field(Kind::Digit, line, TIME, TIME_DIGITS);
-    if time < CLASS {
-        return time;
-    }
-    let class = wrong_in_field(Kind::Class, line, CLASS, CLASS_DIGITS);
-    if class < AXLES {
-        return class;
-    }
-    let axles = wrong_in_field(Kind::Digit, line, AXLES, AXLES_DIGITS);
-    if axles < PLATE {
-        return axles;
-    }
-    let plate = wrong_in_plate(line, PLATE);
-    if plate < LAST_COMMA {
-        return plate;
-    }
-    let comma = lowest_misfit(Kind::Comma, line, LAST_COMMA, BLIND);
-    if comma < BLIND {
-        return comma;
-    }
-    lowest_misfit(Kind::Hex, line, BLIND, LINE_LENGTH)
+    ask_run(kind, line, field)?;
+    let end = field.first + field.many;
+    ask_run(
+        Kind::Comma,
+        line,
+        Field {
+            first: end,
+            many: 1,
+        },
+    )
+}
+
+// .. of the plate, the comma behind it or the blind.
+#[tactic(auto, using(crate::proofs::InParts::tail_parts, crate::proofs::PlaceKinds::first_run, crate::proofs::PlaceKinds::next_run, crate::proofs::PlaceKinds::comma_run, crate::proofs::PlaceKinds::blind_run))]
+pub fn ask_tail(line: &[u8]) -> Result<(), Refusal>
+    requires { length line.now ≡ 63 }
+    ensures { result ≡ asked (allowed_at line.now) 20 43 }
+{
+    ask_run(Kind::PlateFirst, line, PLATE_FIRST)?;
+    ask_run(Kind::PlateNext, line, PLATE_NEXT)?;
+    ask_run(Kind::Comma, line, LAST_COMMA)?;
+    ask_run(Kind::Hex, line, BLIND)
+}
+
+// .. of a line.
+#[tactic(auto, using(crate::proofs::InParts::line_parts, crate::proofs::PlaceKinds::lane_run, crate::proofs::PlaceKinds::time_run, crate::proofs::PlaceKinds::class_run, crate::proofs::PlaceKinds::axles_run), unfolding(crate::specs::Format::kind_at))]
+fn ask_places(line: &[u8]) -> Result<(), Refusal>
+    requires { length line.now ≡ 63 }
+    ensures { result ≡ asked (allowed_at line.now) 0 63 }
+{
+    ask_field(Kind::Digit, line, LANE)?;
+    ask_field(Kind::Digit, line, TIME)?;
+    ask_field(Kind::Class, line, CLASS)?;
+    ask_field(Kind::Digit, line, AXLES)?;
+    ask_tail(line)
 }
 
 // The refusal of a line, if there is one.
+#[tactic(auto, using(crate::proofs::Answers::line_asked, crate::proofs::Answers::asked_lane, crate::proofs::Answers::asked_axles), unfolding(crate::specs::Read::line_answer))]
 pub fn ask_line(line: &[u8]) -> Result<(), Refusal>
     ensures { result ≡ line_answer line.now }
 {
     if line.len() != LINE_LENGTH {
         return Err(Refusal::LineNot63);
     }
-    let wrong = wrong_in_line(line);
-    if wrong < LINE_LENGTH {
-        return Err(Refusal::WrongByte(ByteNumber(wrong as u64)));
-    }
-    if number_from(line, LANE, LANE_DIGITS) == 0 {
-        return Err(Refusal::LaneOrAxlesTooLow);
-    }
-    if number_from(line, AXLES, AXLES_DIGITS) < 2 {
-        return Err(Refusal::LaneOrAxlesTooLow);
-    }
-    Ok(())
+    ask_places(line)?;
+    ask_low(number_in(line, LANE), number_in(line, AXLES))
 }

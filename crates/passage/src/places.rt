@@ -1,30 +1,37 @@
-// Where the fields of a line stand: the first place of each, from 0, and how many places it has. A comma stands behind each but the last.
-pub const LANE: usize = 0;
+// Where the fields of a line stand. A comma stands behind each but the last.
 
-pub const LANE_DIGITS: usize = 3;
+// A field, or some other places of a line: the first of them, from 0, and how many there are.
+#[derive(Clone, Copy, Debug, PartialEq, Eq)]
+pub struct Field {
+    pub first: usize,
+    pub many: usize,
+}
 
-pub const TIME: usize = 4;
+pub const LANE: Field = Field { first: 0, many: 3 };
 
-pub const TIME_DIGITS: usize = 10;
+pub const TIME: Field = Field { first: 4, many: 10 };
 
-pub const CLASS: usize = 15;
+pub const CLASS: Field = Field { first: 15, many: 1 };
 
-pub const CLASS_DIGITS: usize = 1;
+pub const AXLES: Field = Field { first: 17, many: 2 };
 
-pub const AXLES: usize = 17;
+pub const PLATE: Field = Field {
+    first: 20,
+    many: 10,
+};
 
-pub const AXLES_DIGITS: usize = 2;
+pub const BLIND: Field = Field {
+    first: 31,
+    many: 32,
+};
 
-pub const PLATE: usize = 20;
+// The plate's first place, which allows no `-`, and the others.
+pub const PLATE_FIRST: Field = Field { first: 20, many: 1 };
 
-pub const PLATE_LENGTH: usize = 10;
-
-pub const BLIND: usize = 31;
-
-pub const BLIND_LENGTH: usize = 32;
+pub const PLATE_NEXT: Field = Field { first: 21, many: 9 };
 
 // The comma behind the plate.
-pub const LAST_COMMA: usize = 30;
+pub const LAST_COMMA: Field = Field { first: 30, many: 1 };
 
 // The bytes of a line.
 pub const LINE_LENGTH: usize = 63;

@@ -3,25 +3,20 @@ ghost use Rattle.std.specs.Prelude.{◌≡◌};
 ghost use Rattle.passage.specs.Read.{read_answer};
 
 use crate::line::ask_line;
-use crate::numbers::{Numbers, number_from};
-use crate::places::{
-    AXLES, AXLES_DIGITS, CLASS, CLASS_DIGITS, LANE, LANE_DIGITS, TIME, TIME_DIGITS,
-};
+use crate::numbers::{Numbers, number_in};
+use crate::places::{AXLES, CLASS, LANE, TIME};
 use refusal::outcome::Refusal;
 
 // Reads a line.
+#[tactic(auto, using(crate::proofs::Answers::digits_read), unfolding(crate::specs::Read::read_answer, crate::specs::Read::numbers_in))]
 pub fn read(line: &[u8]) -> Result<Numbers, Refusal>
     ensures { result ≡ read_answer line.now }
 {
     ask_line(line)?;
-    let lane = number_from(line, LANE, LANE_DIGITS);
-    let time = number_from(line, TIME, TIME_DIGITS);
-    let class = number_from(line, CLASS, CLASS_DIGITS);
-    let axles = number_from(line, AXLES, AXLES_DIGITS);
     Ok(Numbers {
-        lane,
-        time,
-        class,
-        axles,
+        lane: number_in(line, LANE),
+        time: number_in(line, TIME),
+        class: number_in(line, CLASS),
+        axles: number_in(line, AXLES),
     })
 }

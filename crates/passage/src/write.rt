@@ -1,132 +1,101 @@
 // A line written from its fields.
-ghost use Rattle.std.specs.Prelude.{List, [], ◌∷◌, ◌++◌, ◌≡◌, ℕ, ◌+◌, ◌<◌, ◌≤◌, ◌^◌, length};
+ghost use Rattle.std.specs.Prelude.{List, [], ◌∷◌, ◌++◌, ◌≡◌, ℕ, ◌+◌, ◌<◌, ◌≤◌, ◌^◌, length, OnOk};
 ghost use Rattle.encoding.specs.Written.{Written};
 ghost use Rattle.passage.specs.Format.{allowed_at};
 ghost use Rattle.passage.specs.Front.{Fit, front};
-ghost use Rattle.passage.specs.Runs.{lowest_from};
+ghost use Rattle.passage.specs.Runs.{asked};
 ghost use Rattle.passage.specs.Write.{line_of, numeral, write_answer, write_left};
+ghost use Rattle.passage.specs.declared.numbers.Numbers.{Numbers};
 ghost use Rattle.text.specs.Text.{comma};
 
-use crate::format::{Kind, lowest_misfit, wrong_in_plate};
-use crate::numbers::{Numbers, put_numeral};
-use crate::places::{
-    AXLES, AXLES_DIGITS, BLIND, BLIND_LENGTH, CLASS, CLASS_DIGITS, LANE, LANE_DIGITS, LAST_COMMA,
-    LINE_LENGTH, PLATE, PLATE_LENGTH, TIME, TIME_DIGITS,
-};
+use crate::line::ask_tail;
+use crate::numbers::{Numbers, ask_low, put_numeral};
+use crate::places::{AXLES, BLIND, CLASS, Field, LANE, LAST_COMMA, LINE_LENGTH, PLATE, TIME};
 use refusal::numbers::ByteNumber;
 use refusal::outcome::Refusal;
 
-// The first place of the first number that is too great for its digits or class 0, or the plate's where there is none.
-fn wrong_number(numbers: Numbers) -> usize
-    ensures { (p b : List ℕ) → result ≡ lowest_from (allowed_at (line_of numbers p b)) 0 20 }
+// Refusal 16 of the first place of a field.
+fn wrong_field(field: Field) -> Result<(), Refusal>
+    ensures { result ≡ Err (Refusal.WrongByte (record { 0 = field.first })) }
+{
+    Err(Refusal::WrongByte(ByteNumber(field.first as u64)))
+}
+
+// Refusal 16 of the first number that is too great for its digits or class 0, or none.
+#[tactic(auto, using(crate::proofs::NumbersAsked::lane_wrong, crate::proofs::NumbersAsked::time_wrong, crate::proofs::NumbersAsked::class_none, crate::proofs::NumbersAsked::class_wrong, crate::proofs::NumbersAsked::axles_wrong, crate::proofs::NumbersAsked::none_wrong))]
+fn ask_numbers(numbers: Numbers) -> Result<(), Refusal>
+    ensures value { (p b : List ℕ) → result ≡ asked (allowed_at (line_of numbers p b)) 0 20 }
+    ensures fit { OnOk result (Fit numbers) }
 {
     if 999 < numbers.lane {
-        return LANE;
+        return wrong_field(LANE);
     }
     if 9999999999 < numbers.time {
-        return TIME;
+        return wrong_field(TIME);
     }
-    if numbers.class == 0 {
-        return CLASS;
-    }
-    if 9 < numbers.class {
-        return CLASS;
+    if numbers.class == 0 || 9 < numbers.class {
+        return wrong_field(CLASS);
     }
     if 99 < numbers.axles {
-        return AXLES;
+        return wrong_field(AXLES);
     }
-    PLATE
+    Ok(())
 }
 
-// The lowest place of the line that a field does not fit, or 63.
-fn wrong_value(numbers: Numbers, plate: &[u8], blind: &[u8]) -> usize
-    requires { (length plate.now ≡ 10) × (length blind.now ≡ 32) }
-    ensures { result ≡ lowest_from (allowed_at (line_of numbers plate.now blind.now)) 0 63 }
+// The digits of x at a field's places, and a comma behind them.
+fn put_number(out: &mut [u8], field: Field, x: u64)
+    requires room { field.first + field.many < length out.old }
+    requires fits { x < 10 ^ field.many }
+    ensures { Written field.first (numeral field.many x ++ (comma ∷ [])) out.old out.new }
 {
-    let number = wrong_number(numbers);
-    if number < PLATE {
-        return number;
-    }
-    let in_plate = wrong_in_plate(plate, 0);
-    if in_plate < PLATE_LENGTH {
-        return PLATE + in_plate;
-    }
-    BLIND + lowest_misfit(Kind::Hex, blind, 0, BLIND_LENGTH)
-}
-
-// The bytes of s from `at` on.
-fn put_bytes(out: &mut [u8], at: usize, s: &[u8])
-    requires { at + length s.now ≤ length out.old }
-    ensures { Written at s.now out.old out.new }
-{
-    for i in 0..s.len() {
-        out[at + i] = s[i];
-    }
-}
-
-// The n digits of x from `at` on, and a comma behind them.
-fn put_number(out: &mut [u8], at: usize, n: usize, x: u64)
-    requires { (at + n < length out.old) × (x < 10 ^ n) }
-    ensures { Written at (numeral n x ++ (comma ∷ [])) out.old out.new }
-{
-    put_numeral(out, at, n, x);
-    out[at + n] = b',';
+    put_numeral(out, field, x);
+    out[field.first + field.many] = b',';
 }
 
 // The numbers, which fit their digits, each with a comma behind it.
 fn put_numbers(numbers: Numbers, out: &mut [u8])
-    requires { Fit numbers × (20 ≤ length out.old) }
+    requires fit { Fit numbers }
+    requires room { 20 ≤ length out.old }
     ensures { Written 0 (front numbers) out.old out.new }
 {
-    put_number(out, LANE, LANE_DIGITS, numbers.lane);
-    put_number(out, TIME, TIME_DIGITS, numbers.time);
-    put_number(out, CLASS, CLASS_DIGITS, numbers.class);
-    put_number(out, AXLES, AXLES_DIGITS, numbers.axles);
+    put_number(out, LANE, numbers.lane);
+    put_number(out, TIME, numbers.time);
+    put_number(out, CLASS, numbers.class);
+    put_number(out, AXLES, numbers.axles);
 }
 
-// The plate at its place, and the comma behind it.
-fn put_plate(plate: &[u8], out: &mut [u8])
-    requires { (length plate.now ≡ 10) × (31 ≤ length out.old) }
-    ensures { Written 20 (plate.now ++ (comma ∷ [])) out.old out.new }
+// The plate, the comma behind it and the blind, which are asked where they stand: refusal 16 of the lowest wrong byte, or none.
+fn put_tail(plate: &[u8], blind: &[u8], line: &mut [u8]) -> Result<(), Refusal>
+    requires plate { length plate.now ≡ 10 }
+    requires blind { length blind.now ≡ 32 }
+    requires room { length line.old ≡ 63 }
+    ensures value { (n : Numbers) → result ≡ asked (allowed_at (line_of n plate.now blind.now)) 20 43 }
+    ensures line_after { Written 20 (plate.now ++ (comma ∷ blind.now)) line.old line.new }
 {
-    put_bytes(out, PLATE, plate);
-    out[LAST_COMMA] = b',';
-}
-
-// The line of fields that fit their places.
-fn put_line(numbers: Numbers, plate: &[u8], blind: &[u8], out: &mut [u8])
-    requires { Fit numbers × (length plate.now ≡ 10) × (length blind.now ≡ 32) × (63 ≤ length out.old) }
-    ensures { Written 0 (line_of numbers plate.now blind.now) out.old out.new }
-{
-    put_numbers(numbers, out);
-    put_plate(plate, out);
-    put_bytes(out, BLIND, blind);
+    line[PLATE.first..LAST_COMMA.first].copy_from_slice(plate);
+    line[LAST_COMMA.first] = b',';
+    line[BLIND.first..LINE_LENGTH].copy_from_slice(blind);
+    ask_tail(line)
 }
 
 // Writes the line of the fields into the front of `out`.
+#[tactic(auto, using(crate::proofs::Writing::write_parts), unfolding(crate::specs::Write::write_answer))]
 pub fn write(numbers: Numbers, plate: &[u8], blind: &[u8], out: &mut [u8]) -> Result<(), Refusal>
     ensures value { result ≡ write_answer numbers plate.now blind.now (length out.old) }
     ensures out_after { out.new ≡ write_left result numbers plate.now blind.now out.old }
 {
-    if plate.len() != PLATE_LENGTH {
+    // By their lengths: as arrays they would spare one function its `requires`, and each need a conversion here.
+    if plate.len() != PLATE.many || blind.len() != BLIND.many {
         return Err(Refusal::LineNot63);
     }
-    if blind.len() != BLIND_LENGTH {
-        return Err(Refusal::LineNot63);
-    }
-    let wrong = wrong_value(numbers, plate, blind);
-    if wrong < LINE_LENGTH {
-        return Err(Refusal::WrongByte(ByteNumber(wrong as u64)));
-    }
-    if numbers.lane == 0 {
-        return Err(Refusal::LaneOrAxlesTooLow);
-    }
-    if numbers.axles < 2 {
-        return Err(Refusal::LaneOrAxlesTooLow);
-    }
+    ask_numbers(numbers)?;
+    let mut line = [0; LINE_LENGTH];
+    put_tail(plate, blind, &mut line)?;
+    ask_low(numbers.lane, numbers.axles)?;
     if out.len() < LINE_LENGTH {
         return Err(Refusal::BufferTooShort);
     }
-    put_line(numbers, plate, blind, out);
+    put_numbers(numbers, &mut line);
+    out[..LINE_LENGTH].copy_from_slice(&line);
     Ok(())
 }

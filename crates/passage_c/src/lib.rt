@@ -7,25 +7,24 @@ ghost use Rattle.passage.specs.Front.{Fit};
 ghost use Rattle.passage.specs.Read.{read_answer};
 ghost use Rattle.passage.specs.Seal.{assignment_of_line, check_line_answer, digest_of_line, seal_answer};
 ghost use Rattle.passage.specs.Write.{write_answer, write_left};
-ghost use Rattle.passage.specs.declared.read.Reading.TheVariants.{Given};
 ghost use Rattle.passage_c.specs.Packing.{numbers_of, packed_reading};
 ghost use Rattle.passage_c.specs.Small.{SmallReading};
 ghost use Rattle.refusal.specs.Packing.{packed_outcome};
 
 use passage::numbers::Numbers;
-use passage::read::Reading;
+use refusal::outcome::Refusal;
 use refusal::packing::{pack_outcome, pack_refusal};
 
 // The numbers of a line in one: lane, time, class and axles from bits 8, 18, 52 and 56 on.
 fn pack_numbers(n: Numbers) -> u64
     requires { Fit n }
-    ensures { result ≡ packed_reading (Given n) }
+    ensures { result ≡ packed_reading (Ok n) }
 {
     256 * n.lane + 262144 * n.time + 4503599627370496 * n.class + 72057594037927936 * n.axles
 }
 
 // The number of a reading.
-fn pack_reading(reading: Reading) -> u64
+fn pack_reading(reading: Result<Numbers, Refusal>) -> u64
     requires { SmallReading reading }
     ensures { result ≡ packed_reading reading }
 {
@@ -37,6 +36,7 @@ fn pack_reading(reading: Reading) -> u64
 
 // The numbers of a line.
 #[unsafe(no_mangle)]
+#[tactic(auto, using(crate::proofs::Small::read_small))]
 pub extern "C" fn passage_read(line: &[u8]) -> u64
     ensures { result ≡ packed_reading (read_answer line.now) }
 {
@@ -45,6 +45,7 @@ pub extern "C" fn passage_read(line: &[u8]) -> u64
 
 // The line of the fields, into the first 63 bytes of `out`.
 #[unsafe(no_mangle)]
+#[tactic(auto, using(crate::proofs::Small::write_small))]
 pub extern "C" fn passage_write(
     lane: u64,
     time: u64,
@@ -68,6 +69,7 @@ pub extern "C" fn passage_write(
 
 // The digest and the assignment of a line, into the fronts of `digest` and `assignment`.
 #[unsafe(no_mangle)]
+#[tactic(auto, using(crate::proofs::Small::seal_small))]
 pub extern "C" fn passage_seal(line: &[u8], digest: &mut [u8], assignment: &mut [u8]) -> u64
     ensures value { result ≡ packed_outcome (seal_answer line.now (length digest.old) (length assignment.old)) }
     ensures digest_after { digest.new ≡ digest_of_line (seal_answer line.now (length digest.old) (length assignment.old)) line.now digest.old }
@@ -78,6 +80,7 @@ pub extern "C" fn passage_seal(line: &[u8], digest: &mut [u8], assignment: &mut 
 
 // The check of an assignment of a line's length against a digest.
 #[unsafe(no_mangle)]
+#[tactic(auto, using(record::proofs::check::Small::check_small))]
 pub extern "C" fn passage_check(digest: &[u8], assignment: &[u8]) -> u64
     ensures { result ≡ packed_outcome (check_line_answer digest.now assignment.now) }
 {

@@ -1,10 +1,9 @@
 -- The digits are written from the last on. Before each turn the number's digits are those of what is left, in i places, and then what
 -- was written behind them.
 use mathlib.Core.List.{List, [], ◌∷◌, ◌++◌, append_assoc, append-nil}
-use mathlib.Core.Path.{◌≡◌, ◌∙◌, ap, refl, sym}
+use mathlib.Core.Path.{◌≡◌, ◌∙◌, ap, sym}
 use Prim.Native.Nat.{ℕ, suc, ◌+◌, ◌-◌, ◌/◌, ◌%◌, ◌^◌, ◌<◌}
 use native.Mathlib.Omega.{arith}
-use lib.ListN.{length-set}
 use Rattle.encoding.proofs.Written.{written_as, written-before, written_none, written_one}
 use Rattle.passage.proofs.Numerals.{numeral_last, tenth_below}
 use Rattle.passage.specs.Write.{numeral}
@@ -22,24 +21,21 @@ one_more whole written i rest some below e =
     ∙ append_assoc (numeral (i - 1) (rest / 10)) (digit (rest % 10) ∷ []) written
 
 pub loop-i-init : goal.loop-i-init
-loop-i-init c = (omega arith, c.requires.1, refl, ([], sym (append-nil (numeral c.args.n c.args.x)), written_none _ _))
+loop-i-init c = (c.requires.fits, ([], sym (append-nil (numeral c.args.field.many c.args.x)), written_none _ _))
 
 pub loop-i-preserved : goal.loop-i-preserved
 loop-i-preserved c =
     let loop = c.loop-i in
-    let a = c.args in
+    let at = c.args.field.first in
     let i = loop.i in
     let rest = loop.rest in
     let place : i ≡ suc (i - 1) = omega arith in
-    let behind : a.at + i ≡ a.at + (i - 1) + 1 = omega arith in (
-      omega arith,
-      tenth_below (i - 1) rest (rw place at loop.invariant.1),
-      length-set loop.out (a.at + (i - 1)) (digit (rest % 10)) ∙ loop.invariant.2,
+    let behind : at + i ≡ at + (i - 1) + 1 = omega arith in (
+      tenth_below (i - 1) rest (rw place at loop.invariant.0),
       (
-        digit (rest % 10) ∷ loop.invariant.3.0,
-        one_more (numeral a.n a.x) loop.invariant.3.0 i rest c.loop-i-test.true loop.invariant.1 loop.invariant.3.1,
-        written-before {xs = digit (rest % 10) ∷ []} (a.at + i) behind loop.invariant.3.2
-            (written_one (a.at + (i - 1)) (digit (rest % 10)) loop.out),
+        digit (rest % 10) ∷ loop.invariant.1.0,
+        one_more (numeral c.args.field.many c.args.x) loop.invariant.1.0 i rest c.loop-i-test.true loop.invariant.0 loop.invariant.1.1,
+        written-before {xs = digit (rest % 10) ∷ []} (at + i) behind loop.invariant.1.2 (written_one (at + (i - 1)) (digit (rest % 10)) loop.out),
       ),
     )
 
@@ -47,7 +43,6 @@ pub returns : goal.returns
 unfolding numeral
 returns c =
     let loop = c.loop-i in
-    let a = c.args in
     let none : loop.i ≡ 0 = omega arith in
-    let place : a.at + loop.i ≡ a.at = omega arith in
-    written_as (sym (loop.invariant.3.1 ∙ ap (λ i. numeral i loop.rest ++ loop.invariant.3.0) none)) (rw place at loop.invariant.3.2)
+    let place : c.args.field.first + loop.i ≡ c.args.field.first = omega arith in
+    written_as (sym (loop.invariant.1.1 ∙ ap (λ i. numeral i loop.rest ++ loop.invariant.1.0) none)) (rw place at loop.invariant.1.2)

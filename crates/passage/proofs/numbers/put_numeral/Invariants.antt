@@ -2,16 +2,13 @@
 -- was written behind them.
 use mathlib.Core.List.{List, ◌++◌}
 use mathlib.Core.Path.{◌≡◌}
-use Prim.Native.Nat.{ℕ, ◌+◌, ◌^◌, ◌<◌, ◌≤◌}
-use lib.ListN.{length}
+use Prim.Native.Nat.{ℕ, ◌+◌, ◌^◌, ◌<◌}
 use Rattle.encoding.specs.Written.{Written}
 use Rattle.passage.specs.Write.{numeral}
 use Rattle.passage.proofs.numbers.put_numeral.Given as goal
 
 abbrev pub invariant-loop-i : goal.invariant-loop-i
 invariant-loop-i l =
-    (l.i ≤ l.n) × (l.rest < 10 ^ l.i) × (length l.out ≡ length l.initial.out)
-    × ((written : List ℕ) × (numeral l.n l.x ≡ numeral l.i l.rest ++ written) × Written (l.at + l.i) written l.initial.out l.out)
-
-abbrev pub decreases-loop-i : goal.decreases-loop-i
-decreases-loop-i l = l.i
+    (l.rest < 10 ^ l.i)
+    × ((written : List ℕ) × (numeral l.field.many l.x ≡ numeral l.i l.rest ++ written)
+    × Written (l.field.first + l.i) written l.initial.out l.out)

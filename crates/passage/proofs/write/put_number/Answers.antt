@@ -12,5 +12,5 @@ use Rattle.passage.proofs.write.put_number.Goals as goal
 pub returns : goal.returns
 returns c =
     let a = c.args in
-    let end : a.at + a.n ≡ a.at + length (numeral a.n a.x) = omega (arith, length-numeral a.n a.x) in
-    written_then (a.at + a.n) end c.put_numeral.ensures (written_one (a.at + a.n) comma c.put_numeral.new.out)
+    let end : a.field.first + a.field.many ≡ a.field.first + length (numeral a.field.many a.x) = omega (arith, length-numeral a.field.many a.x) in
+    written_then (a.field.first + a.field.many) end c.put_numeral.ensures (written_one (a.field.first + a.field.many) comma c.put_numeral.new.out)
