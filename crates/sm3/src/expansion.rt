@@ -1,6 +1,6 @@
 // The expansion of a block to 68 words.
 ghost use Rattle.std.specs.Prelude.{◌≡◌, ◌<◌, ◌≤◌, length, take};
-ghost use Rattle.sm3.specs.Sm3.{block_word, expanded, expansion, next_word};
+ghost use Rattle.sm3.specs.Sm3.{block_word, expanded, expansion, mixed, next_word};
 ghost use Rattle.encoding.specs.Bits.{bit_of_bytes};
 
 use crate::words::{p1, rotate_left};
@@ -26,14 +26,22 @@ pub fn first_words(bytes: &[u8; 64], n: usize) -> [u32; 68]
     w
 }
 
+// q of Wj, from the words before it.
+#[tactic(auto, unfolding(crate::specs::Sm3::mixed))]
+pub fn mixed_word(w: &[u32; 68], j: usize) -> u32
+    requires { (16 ≤ j) × (j < 68) }
+    ensures { result ≡ mixed w.now j }
+{
+    w[j - 16] ^ w[j - 9] ^ rotate_left(w[j - 3], 15)
+}
+
 // Wj from the words before it.
-#[tactic(auto, unfolding(crate::specs::Sm3::expanded, crate::specs::Sm3::mixed))]
+#[tactic(auto, unfolding(crate::specs::Sm3::expanded))]
 fn expanded_word(w: &[u32; 68], j: usize) -> u32
     requires { (16 ≤ j) × (j < 68) }
     ensures { result ≡ expanded w.now j }
 {
-    let q = w[j - 16] ^ w[j - 9] ^ rotate_left(w[j - 3], 15);
-    p1(q) ^ rotate_left(w[j - 13], 7) ^ w[j - 6]
+    p1(mixed_word(w, j)) ^ rotate_left(w[j - 13], 7) ^ w[j - 6]
 }
 
 // Wj after the words before it: up to W15 it is the block's.
