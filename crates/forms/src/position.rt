@@ -25,8 +25,7 @@ pub fn wire_of_bit(x: WordPosition, i: u64) -> WireNumber
     requires { Within x × (i < 32) }
     ensures { result ≡ wire_at x i }
 {
-    let first = x.first;
-    WireNumber(first.0 + (i + x.rotation) % 32)
+    WireNumber(x.first.0 + (i + x.rotation) % 32)
 }
 
 // A word that stands from wire w on.
@@ -45,9 +44,8 @@ pub fn rotated(k: u64, x: WordPosition) -> WordPosition
     requires { (k < 32) × Within x }
     ensures { (result ≡ rotated_by k x) × Within result }
 {
-    let first = x.first;
     WordPosition {
-        first,
+        first: x.first,
         rotation: (x.rotation + k) % 32,
     }
 }

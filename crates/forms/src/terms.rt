@@ -123,10 +123,7 @@ fn with_sign(plus: bool, k: u64) -> u64
     requires { k ≤ p }
     ensures { result ≡ rows.with_sign plus k }
 {
-    if plus {
-        return k;
-    }
-    P - k
+    if plus { k } else { P - k }
 }
 
 // Puts on k times the number on `width` wires from w on, or takes it off.
@@ -141,7 +138,7 @@ fn push_number(part: &mut Part<MOST_TERMS>, plus: bool, k: u64, width: u64, w: W
     }
 }
 
-// Puts on a word's wires with their weights.
+// Puts on a word's wires with their weights. They turn with the word, so they are no number on wires that follow each other.
 fn push_word(part: &mut Part<MOST_TERMS>, x: WordPosition)
     requires { (length part.old + 32 ≤ most_terms) × Within x }
     ensures end { part.new ≡ part.old ++ nonzero (weighted x) }

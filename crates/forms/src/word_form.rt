@@ -13,6 +13,7 @@ use crate::position::{WordPosition, rotated, wire_of_bit, word_from};
 use refusal::numbers::WireNumber;
 
 // r is x xor y.
+#[tactic(auto, unfolding(crate::specs::WordForms::xor_of_two))]
 pub fn xor_of_two(x: WordPosition, y: WordPosition, r: WordPosition, l: u64) -> Form
     requires { Within x × Within y × Within r × (l < 32) }
     ensures { (result ≡ xor_of_two x y r l) × Fit result }
@@ -25,6 +26,7 @@ pub fn xor_of_two(x: WordPosition, y: WordPosition, r: WordPosition, l: u64) -> 
 }
 
 // r is y where x is 1, else z.
+#[tactic(auto, unfolding(crate::specs::WordForms::choice_of))]
 pub fn choice(x: WordPosition, y: WordPosition, z: WordPosition, r: WordPosition, l: u64) -> Form
     requires { Within x × Within y × Within z × Within r × (l < 32) }
     ensures { (result ≡ choice_of x y z r l) × Fit result }
@@ -45,6 +47,7 @@ pub enum OfThree {
 }
 
 // r is the xor of x, y and z, or their majority. Each position has the bit row of r and then the equation.
+#[tactic(auto, unfolding(crate::specs::WordForms::paired))]
 pub fn pair(
     of: OfThree,
     x: WordPosition,
@@ -71,6 +74,7 @@ pub fn pair(
 }
 
 // A bit row of the sum whose wires begin at r. It is the same whatever is added up.
+#[tactic(auto, unfolding(crate::specs::WordForms::summed))]
 pub fn sum_bit(r: WireNumber, l: u64) -> Form
     requires { Small r.0 × (l < 34) }
     ensures { ((s : Addends) (constant : ℕ) → result ≡ summed s constant r.0 l) × Fit result }
@@ -93,6 +97,7 @@ pub fn permuted(from: WireNumber, near: u64, far: u64, to: WireNumber, l: u64) -
 }
 
 // The bits from r on are what lies between the digits and their bound.
+#[tactic(auto, unfolding(crate::specs::WordForms::subtracted))]
 pub fn subtracted(digits: Digits, bound: Bound, width: u64, r: WireNumber, l: u64) -> Form
     requires { FitDifference digits bound width r × Small l }
     ensures { (result ≡ words.subtracted digits bound width r.0 l) × Fit result }

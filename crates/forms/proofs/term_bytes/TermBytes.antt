@@ -23,10 +23,11 @@ term_length t =
     ∙ ap₂ (λ m n. m + n) (length-least_first 4 t.wire.0) (length-twos_complement 8 (coefficient t))
 
 -- a term's coefficient goes behind its wire
-pub next-number : {at : ℕ} {l l' l'' : List ℕ} (t : Term) → Written at (least_first 4 t.wire.0) l l'
-    → Written (at + 4) (twos_complement 8 (coefficient t)) l' l'' → Written at (term_bytes t) l l''
+pub term_written : (t : Term) (n at : ℕ) (l l' l'' : List ℕ) → least_first 8 n ≡ twos_complement 8 (coefficient t)
+    → Written at (least_first 4 t.wire.0) l l' → Written (at + 4) (least_first 8 n) l' l'' → Written at (term_bytes t) l l''
 unfolding term_bytes
-next-number {at} t h h' = written_then (at + 4) (ap (λ k. at + k) (sym (length-least_first 4 t.wire.0))) h h'
+term_written t n at l l' l'' e h h' =
+    written_then (at + 4) (ap (λ k. at + k) (sym (length-least_first 4 t.wire.0))) h (written_as e h')
 
 pub terms_append : (ts us : List Term) → terms_bytes (ts ++ us) ≡ terms_bytes ts ++ terms_bytes us
 unfolding terms_bytes
