@@ -14,9 +14,8 @@ use Rattle.claim.proofs.LineFront.{digest-front, parse-front}
 use Rattle.claim.proofs.LineRight.{claimed}
 use Rattle.claim.specs.Answer.{AnswersAll, answer_to, input_room}
 use Rattle.claim.specs.Answer as answer
-use Rattle.claim.specs.Line.{digest_at, packed_from, parse_of}
-use Rattle.claim.specs.declared.answer.Answer.TheVariants.{Checked}
-use Rattle.claim.specs.declared.line.Parsed.TheVariants.{Claim, Malformed}
+use Rattle.claim.specs.Line.{claim, digest_at, packed_from, parse_of}
+use Rattle.std.specs.Prelude.{None, Option, Some}
 use Rattle.claim.specs.declared.line.Parsed.{Parsed}
 use Rattle.encoding.specs.Packed.{packed_length}
 use Rattle.limits.specs.Blocks.{blocks, most_bits}
@@ -40,7 +39,7 @@ both_long n d p q long-p long-q =
     ∙ sym (check-length n d q range (λ e. omega (arith, most_packed n range))))
 
 module _ (m : ℕ) (s : List ℕ) (room : input_room ≤ m) where
-  same_check : (l at : ℕ) → parse_of s ≡ Claim l at
+  same_check : (l at : ℕ) → parse_of s ≡ claim l at
       → packed_check_answer l (digest_at (take m s) at) (packed_from (take m s) at)
       ≡ packed_check_answer l (digest_at s at) (packed_from s at)
   same_check l at read =
@@ -54,9 +53,9 @@ module _ (m : ℕ) (s : List ℕ) (room : input_room ≤ m) where
       (omega (arith, length-drop (at + 65) s)))
       (λ all. ap (λ t. packed_check_answer l (digest_at t at) (packed_from t at)) (take_all m s (omega arith)))
 
-  by_line : (r : Parsed) → parse_of s ≡ r → answer.claimed r (take m s) ≡ answer.claimed r s
-  by_line Malformed read = refl
-  by_line (Claim l at) read = ap Checked (same_check l at read)
+  by_line : (r : Option Parsed) → parse_of s ≡ r → answer.claimed r (take m s) ≡ answer.claimed r s
+  by_line None read = refl
+  by_line (Some c) read = ap answer.checked (same_check c.bits c.digest read)
 
   same_answer : answer_to (take m s) ≡ answer_to s
   unfolding answer_to

@@ -11,9 +11,9 @@ use Rattle.text.proofs.HexRight.{length-hex}
 use Rattle.text.specs.Decimal.{field}
 use Rattle.text.specs.Hex.{hex}
 use Rattle.text.specs.Text.{comma, line_feed}
-use Rattle.claim.specs.Line.{Right, digest_at, line, parse_of}
+use Rattle.std.specs.Prelude.{None, Option, Some}
+use Rattle.claim.specs.Line.{Right, claim, digest_at, line, parse_of}
 use Rattle.claim.specs.declared.line.Parsed.{Parsed}
-use Rattle.claim.specs.declared.line.Parsed.TheVariants.{Claim, Malformed}
 use Rattle.claim.proofs.LineRight.{claim_right, claimed, parse_right, parse_wrong}
 
 pub length-line : (l : ℕ) (d : List ℕ) → l < 1000000000 → length d ≡ 32 → length (line l d) ≤ 75
@@ -52,7 +52,7 @@ module _ (m : ℕ) (s : List ℕ) where
   )
 
   module _ (enough : 75 ≤ m) where
-    claim_front : (l at : ℕ) → parse_of s ≡ Claim l at → (parse_of (take m s) ≡ Claim l at) × (digest_at (take m s) at ≡ digest_at s at)
+    claim_front : (l at : ℕ) → parse_of s ≡ claim l at → (parse_of (take m s) ≡ claim l at) × (digest_at (take m s) at ≡ digest_at s at)
     claim_front l at read =
         let c = claimed s l at read in
         let front = right_front l _ _ enough (claim_right s l at c) in
@@ -62,10 +62,10 @@ module _ (m : ℕ) (s : List ℕ) where
     pub parse-front : parse_of (take m s) ≡ parse_of s
     parse-front = by (parse_of s) refl
       where
-        by : (r : Parsed) → parse_of s ≡ r → parse_of (take m s) ≡ parse_of s
-        by (Claim l at) read = (claim_front l at read).0 ∙ sym read
-        by Malformed read =
+        by : (r : Option Parsed) → parse_of s ≡ r → parse_of (take m s) ≡ parse_of s
+        by (Some c) read = (claim_front c.bits c.digest read).0 ∙ sym read
+        by None read =
             (parse_wrong (take m s)).1 (λ l d p right. (parse_wrong s).0 read l d (p ++ drop m s) (right_whole l d p right)) ∙ sym read
 
-    pub digest-front : (l at : ℕ) → parse_of s ≡ Claim l at → digest_at (take m s) at ≡ digest_at s at
+    pub digest-front : (l at : ℕ) → parse_of s ≡ claim l at → digest_at (take m s) at ≡ digest_at s at
     digest-front l at read = (claim_front l at read).1

@@ -18,12 +18,13 @@ use Rattle.text.proofs.HexRight.{bytes_of-hex, bytes_of-hex_bytes, hex_of_bytes,
 use Rattle.text.specs.Decimal.{field}
 use Rattle.text.specs.Hex.{all_hex, hex}
 use Rattle.text.specs.Text.{comma, line_feed}
-use Rattle.claim.specs.Line.{Reads, Right, digest_at, line, packed_from, parse_of}
+use Rattle.std.proofs.lemmas.Option.{none-some, same_Some}
+use Rattle.std.specs.Prelude.{None, Option, Some}
+use Rattle.claim.specs.Line.{Reads, Right, claim, digest_at, line, packed_from, parse_of}
 use Rattle.claim.specs.declared.line.Parsed.{Parsed}
-use Rattle.claim.specs.declared.line.Parsed.TheVariants.{Claim, Malformed}
 
-never : {l at : ℕ} → Malformed ≡ Claim l at → ⊥
-never e = let z : ◌≡◌ {A = ℕ} 0 1 = cc in omega arith
+never : {l at : ℕ} → None ≡ claim l at → ⊥
+never e = none-some _ e
 
 -- bytes in three pieces, h, the byte c and p, behind others: what stands where
 module _ (f h p : List ℕ) (c n : ℕ) (long : length h ≡ n) where
@@ -77,7 +78,7 @@ module _ (l : ℕ) (d p : List ℕ) (below : l < 1000000000) (size : length d �
   reads_pieces : Reads input l place d p
   unfolding parse_of
   reads_pieces = (
-    goes_on Malformed comma _ (omega arith) l below (hex d ++ (line_feed ∷ p))
+    goes_on None comma _ (omega arith) l below (hex d ++ (line_feed ∷ p))
         ∙ simp (hex_there 32 input place d size bytes there, eq-eqb _ _ feed_there),
     bytes_of-hex 32 input place d size bytes there,
     third_piece (field l comma) (hex d) p line_feed 64 long,
@@ -98,10 +99,10 @@ pub record Claimed (s : List ℕ) (l at : ℕ) : Type 0 where
   feed : get_or s (at + 64) 0 ≡ line_feed
   pub within : at + 65 ≤ length s
 
-pub claimed : (s : List ℕ) (l at : ℕ) → parse_of s ≡ Claim l at → Claimed s l at
+pub claimed : (s : List ℕ) (l at : ℕ) → parse_of s ≡ claim l at → Claimed s l at
 unfolding parse_of
 claimed s l at e =
-    let read = past Malformed comma _ s (Claim l at) never e in
+    let read = past None comma _ s (claim l at) never e in
     by read.v read.m read.begins (all_hex 64 s read.m && eqb (get_or s (read.m + 64) 0) line_feed) refl read.on
   where
     by :
@@ -109,14 +110,15 @@ claimed s l at e =
         → Begins comma s v m
         → (b : Bool)
         → (all_hex 64 s m && eqb (get_or s (m + 64) 0) line_feed) ≡ b
-        → cond b (Claim v m) Malformed ≡ Claim l at
+        → cond b (claim v m) None ≡ claim l at
         → Claimed s l at
     by v m begins true told e =
         let both = (and-eq-true_iff (all_hex 64 s m) (eqb (get_or s (m + 64) 0) line_feed)).0 told in
         let feed = eqb-true (get_or s (m + 64) 0) line_feed both.1 in
         let last = byte-within s (m + 64) (omega (arith, feed)) in
-        let v_l : v ≡ l = cc in
-        let m_at : m ≡ at = cc in
+        let read = same_Some _ _ e in
+        let v_l : v ≡ l = ap (λ (c : Parsed). c.bits) read in
+        let m_at : m ≡ at = ap (λ (c : Parsed). c.digest) read in
         subst (λ (x : ℕ). Claimed s x at) v_l
         (subst (Claimed s v) m_at
         (record {
@@ -161,12 +163,15 @@ parse_right s l at d p = (
 )
 
 -- .. and is refused otherwise
-pub parse_wrong : (s : List ℕ) → (parse_of s ≡ Malformed) ↔ ((l : ℕ) (d p : List ℕ) → Right s l d p → ⊥)
+pub parse_wrong : (s : List ℕ) → (parse_of s ≡ None) ↔ ((l : ℕ) (d p : List ℕ) → Right s l d p → ⊥)
 parse_wrong s = (
   λ bad l d p right. never (sym bad ∙ (reads_right s l d p right).0),
   by (parse_of s) refl,
 )
   where
-    by : (r : Parsed) → parse_of s ≡ r → ((l : ℕ) (d p : List ℕ) → Right s l d p → ⊥) → parse_of s ≡ Malformed
-    by (Claim l at) read none = absurd (none l (digest_at s at) (packed_from s at) (claim_right s l at (claimed s l at read)))
-    by Malformed read none = read
+    by : (r : Option Parsed) → parse_of s ≡ r → ((l : ℕ) (d p : List ℕ) → Right s l d p → ⊥) → parse_of s ≡ None
+    by (Some c) read none =
+        absurd
+        (none c.bits (digest_at s c.digest) (packed_from s c.digest)
+        (claim_right s c.bits c.digest (claimed s c.bits c.digest read)))
+    by None read none = read

@@ -1,14 +1,13 @@
 -- The line of a claim (document 02, request 1: "a line of length (written as for `rows`), comma and digest (64 lower-case
 -- hexadecimal digits), ended by one line feed, then the packed bytes to the end"; "a bad line is refusal 1"; request 2: "The
 -- length becomes a bit count").
-use Rattle.std.specs.Prelude.{cond, ◌&&◌, List, [], ◌∷◌, ◌++◌, ◌≡◌, ℕ, ◌+◌, ◌<◌, eqb, drop, get_or, length}
+use Rattle.std.specs.Prelude.{cond, ◌&&◌, List, [], ◌∷◌, ◌++◌, ◌≡◌, None, Option, Some, ℕ, ◌+◌, ◌<◌, eqb, drop, get_or, length}
 use Rattle.encoding.specs.Bytes.{Bytes}
 use Rattle.text.specs.Decimal.{field}
 use Rattle.text.specs.Field.{after, field_of}
 use Rattle.text.specs.Hex.{all_hex, bytes_of_hex, hex}
 use Rattle.text.specs.Text.{comma, line_feed}
 use Rattle.claim.specs.declared.line.Parsed.{Parsed}
-use Rattle.claim.specs.declared.line.Parsed.TheVariants.{Claim, Malformed}
 
 -- the line of a length l in bits and a digest d
 unfoldable pub line : ℕ → List ℕ → List ℕ
@@ -27,13 +26,16 @@ abbrev pub packed_from : List ℕ → ℕ → List ℕ
 packed_from s at = drop (at + 65) s
 
 -- the length in bits, and the place behind its comma, where 64 digits and the line feed must stand
-unfoldable pub parse_of : List ℕ → Parsed
+abbrev pub claim : ℕ → ℕ → Option Parsed
+claim l at = Some (record { bits = l; digest = at })
+
+unfoldable pub parse_of : List ℕ → Option Parsed
 parse_of s =
-    after Malformed (field_of comma s) s λ l at _.
-    cond (all_hex 64 s at && eqb (get_or s (at + 64) 0) line_feed) (Claim l at) Malformed
+    after None (field_of comma s) s λ l at _.
+    cond (all_hex 64 s at && eqb (get_or s (at + 64) 0) line_feed) (claim l at) None
 
 -- the length l and the place `at` are read, the digest there is d, and p stands behind the line: exactly if `Right s l d p`
--- and the length's field ends at this place (`parse_right` of proofs/LineRight). `Malformed` is given exactly if there are no
+-- and the length's field ends at this place (`parse_right` of proofs/LineRight). `None` is given exactly if there are no
 -- such l, d and p (`parse_wrong`)
 abbrev pub Reads : List ℕ → ℕ → ℕ → List ℕ → List ℕ → Type 0
-Reads s l at d p = (parse_of s ≡ Claim l at) × (digest_at s at ≡ d) × (packed_from s at ≡ p)
+Reads s l at d p = (parse_of s ≡ claim l at) × (digest_at s at ≡ d) × (packed_from s at ≡ p)

@@ -4,25 +4,17 @@ ghost use Rattle.claim.specs.Answer.{answer_to, printed};
 ghost use Rattle.packing.specs.PackedCheck.{packed_check_answer};
 ghost use Rattle.text.specs.Put.{Put};
 
-use crate::line::{Parsed, parse};
+use crate::line::parse;
 use circuit::circuits::Circuit;
 use circuit::wire::wire_count;
 use limits::limit::OUR_LIMIT;
 use packing::unpack::unpack;
 use record::check::check;
+use refusal::line::LineRefusal;
 use refusal::outcome::Refusal;
 use text::hex::put_bytes_of_hex;
-use text::literal::put_through;
+use text::literal::put_text;
 use text::refused::put_refusal;
-
-// What a claim is answered.
-#[derive(Clone, Copy)]
-pub enum Answer {
-    // Refusal 1: the line is no length and digest.
-    BadLine,
-    // The claim is accepted, or refused by 2, 11, 12, 7, 8 or 9.
-    Checked(Outcome),
-}
 
 // The check of packed bytes for records of so many bits against a digest. The entries go into `room`.
 fn check_packed(bits: u64, digest: &[u8], packed: &[u8], room: &mut [u8]) -> Result<(), Refusal>
@@ -34,38 +26,28 @@ fn check_packed(bits: u64, digest: &[u8], packed: &[u8], room: &mut [u8]) -> Res
     check(OUR_LIMIT, bits, digest, &room[..end])
 }
 
-// The answer to the bytes of standard input. `room` is room for the longest assignment.
-pub fn answer_to(input: &[u8], room: &mut [u8]) -> Answer
+// The answer to the bytes of standard input: the claim is accepted, or refused by 1, 2, 11, 12, 7, 8 or 9. `room` is room for
+// the longest assignment.
+#[tactic(auto, unfolding(crate::specs::Answer::answer_to))]
+pub fn answer_to(input: &[u8], room: &mut [u8]) -> Result<(), LineRefusal>
     requires { length room.old ≡ 2887688 }
     ensures { result ≡ answer_to input.now }
 {
-    let Parsed::Claim { bits, digest } = parse(input) else {
-        return Answer::BadLine;
-    };
-    let mut bytes = [0u8; 32];
-    put_bytes_of_hex(input, digest, &mut bytes);
-    let packed = digest + 65;
-    Answer::Checked(check_packed(bits, &bytes, &input[packed..], room))
+    let claim = parse(input).ok_or(LineRefusal::BadLine)?;
+    let mut digest = [0u8; 32];
+    put_bytes_of_hex(input, claim.digest, &mut digest);
+    let packed = claim.digest + 65;
+    check_packed(claim.bits, &digest, &input[packed..], room)?;
+    Ok(())
 }
 
-// `accepted`, or the refusal's number.
-fn put_outcome(out: &mut [u8], outcome: Result<(), Refusal>) -> usize
-    requires { 29 ≤ length out.old }
-    ensures { Put out.old 0 (printed (Answer.Checked outcome)) out.new result × (result ≤ 29) }
-{
-    match outcome {
-        Ok(()) => put_through(out, 0, b"accepted\n", 0, b'\n'),
-        Err(refusal) => put_refusal(out, refusal.number()),
-    }
-}
-
-// The line that is printed for an answer.
-pub fn put_answer(out: &mut [u8], answer: Answer) -> usize
+// The line that is printed for an answer: `accepted`, or the refusal's number.
+pub fn put_answer(out: &mut [u8], answer: Result<(), LineRefusal>) -> usize
     requires { 29 ≤ length out.old }
     ensures { Put out.old 0 (printed answer) out.new result × (result ≤ 29) }
 {
     match answer {
-        Answer::BadLine => put_refusal(out, 1),
-        Answer::Checked(outcome) => put_outcome(out, outcome),
+        Ok(()) => put_text(out, 0, "accepted\n"),
+        Err(refusal) => put_refusal(out, refusal.number()),
     }
 }

@@ -2,38 +2,31 @@
 ghost use Rattle.std.specs.Prelude.{◌≡◌};
 ghost use Rattle.claim.specs.Line.{parse_of};
 
-use text::field::{Field, read_field};
+use text::field::read_field;
 use text::hex::all_hex;
 
-// What the line says.
-#[derive(Clone, Copy)]
-pub enum Parsed {
-    // A length in bits below 1,000,000,000, and the place where the digits of the digest begin.
-    Claim { bits: u64, digest: usize },
-    // It is no such line.
-    Malformed,
+// What the line says: a length in bits below 1,000,000,000, and the place where the digits of the digest begin.
+#[derive(Clone, Copy, Debug, PartialEq, Eq)]
+pub struct Parsed {
+    pub bits: u64,
+    pub digest: usize,
 }
 
 // The length in bits and the digest's place of the line at the front of s.
-pub fn parse(s: &[u8]) -> Parsed
+pub fn parse(s: &[u8]) -> Option<Parsed>
     ensures { result ≡ parse_of s.now }
 {
-    let Field::Number {
-        value: bits,
-        bytes: digest,
-    } = read_field(s, 0, b',')
-    else {
-        return Parsed::Malformed;
-    };
+    let bits = read_field(s, 0, b',')?;
+    let digest = bits.bytes;
     if !all_hex(s, digest, 64) {
-        return Parsed::Malformed;
+        return None;
     }
-    let end = digest + 64;
-    if s.len() <= end {
-        return Parsed::Malformed;
+    let end = s.get(digest + 64)?;
+    if *end != b'\n' {
+        return None;
     }
-    if s[end] != b'\n' {
-        return Parsed::Malformed;
-    }
-    Parsed::Claim { bits, digest }
+    Some(Parsed {
+        bits: bits.value,
+        digest,
+    })
 }

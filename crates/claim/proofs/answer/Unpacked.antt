@@ -1,6 +1,5 @@
 -- The room for the longest assignment holds that of every record, and after unpacking its front is the entries.
 use Rattle.refusal.specs.Refusals.{Outcome, done}
-use Rattle.std.specs.Prelude.{Ok}
 use mathlib.Core.List.{List}
 use mathlib.Core.Path.{◌≡◌, ◌∙◌, ap, ap₂, sym}
 use Prim.Native.Nat.{ℕ, ◌*◌, ◌≤◌}
