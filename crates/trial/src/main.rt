@@ -45,7 +45,7 @@ use limits::handed::ask_record;
 use limits::limit::OUR_LIMIT;
 use record::check::check;
 use record::produce::produce;
-use record::space::LONGEST_ASSIGNMENT;
+use record::space::assignment_space;
 use refusal::outcome::Refusal;
 use sample::counted;
 use sm3::digest::digest;
@@ -99,7 +99,7 @@ fn try_length(rt: &HostRuntime, bits: u64, room: &mut [u8]) -> io::Result<()>
 
 // The same for all of the lengths.
 fn try_all(rt: &HostRuntime) -> io::Result<()> {
-    let mut room = [0u8; LONGEST_ASSIGNMENT];
+    let mut room = assignment_space();
     for bits in LENGTHS {
         try_length(rt, bits, &mut room)?;
     }
