@@ -1,7 +1,8 @@
-// Whether a record's axles lie between two bounds.
+// Whether a record's axles lie in a band.
 ghost use Rattle.std.specs.Prelude.{◌≡◌, length};
 ghost use Rattle.axles.specs.Band.{in_band};
 
+use circuit::band::Band;
 use encoding::read::wide;
 use text::decimal::is_digit;
 
@@ -10,10 +11,10 @@ pub const TENS: usize = 17;
 
 pub const UNITS: usize = 18;
 
-// Whether both bytes are digits and the axles lie within the bounds, ends included.
-pub fn in_band(lower: u64, upper: u64, bytes: &[u8]) -> bool
+// Whether both bytes are digits and the axles lie in the band, ends included.
+pub fn in_band(band: Band, bytes: &[u8]) -> bool
     requires { length bytes.now ≡ 63 }
-    ensures { result ≡ in_band lower upper bytes.now }
+    ensures { result ≡ in_band band.lower band.upper bytes.now }
 {
     if !is_digit(bytes[TENS]) {
         return false;
@@ -24,8 +25,8 @@ pub fn in_band(lower: u64, upper: u64, bytes: &[u8]) -> bool
     let tens = wide(bytes[TENS]);
     let units = wide(bytes[UNITS]);
     let axles = 10 * (tens - 48) + (units - 48);
-    if axles < lower {
+    if axles < band.lower {
         return false;
     }
-    axles <= upper
+    axles <= band.upper
 }

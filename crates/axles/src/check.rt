@@ -3,8 +3,7 @@ ghost use Rattle.std.specs.Prelude.{◌≡◌};
 ghost use Rattle.axles.specs.Check.{axles_check_answer};
 
 use acceptance::circuit_check::check_circuit;
-use circuit::axles::bounds_in_range;
-use circuit::circuits::Circuit;
+use circuit::band::Band;
 use refusal::outcome::Refusal;
 
 // The check of an assignment of a record with axles between two bounds against a digest.
@@ -12,8 +11,6 @@ use refusal::outcome::Refusal;
 pub fn check(lower: u64, upper: u64, digest: &[u8], assignment: &[u8]) -> Result<(), Refusal>
     ensures { result ≡ axles_check_answer lower upper digest.now assignment.now }
 {
-    if !bounds_in_range(lower, upper) {
-        return Err(Refusal::BoundsOutOfRange);
-    }
-    check_circuit(Circuit::Axles { lower, upper }, digest, assignment)
+    let band = Band::new(lower, upper).ok_or(Refusal::BoundsOutOfRange)?;
+    check_circuit(band.circuit(), digest, assignment)
 }

@@ -12,8 +12,8 @@ ghost use Rattle.forms.specs.WordWires.{number_wires};
 
 use crate::band::{TENS, UNITS, in_band};
 use assignment::wires::put_entry;
-use circuit::axles::{ABOVE_LOWER, AXLE_BITS, BELOW_UPPER, TENS_LEFT, UNITS_LEFT, bounds_in_range};
-use circuit::circuits::Circuit;
+use circuit::axles::{ABOVE_LOWER, AXLE_BITS, BELOW_UPPER, TENS_LEFT, UNITS_LEFT};
+use circuit::band::Band;
 use circuit::wire::wire_count;
 use encoding::read::wide;
 use limits::handed::ask_record;
@@ -32,27 +32,27 @@ fn put_number(out: &mut [u8], w: WireNumber, width: u64, x: u64)
     }
 }
 
-// The appended wires of two digits between two bounds.
-fn put_numbers(out: &mut [u8], lower: u64, upper: u64, tens: u64, units: u64)
-    requires { (tens ≤ 9) × (units ≤ 9) × (lower ≤ 10 * tens + units) × (10 * tens + units ≤ upper) × (8 * wire_count (Axles lower upper) ≤ length out.old) }
-    ensures { Wrote tens_left 22 (numbers lower upper tens units) out.old out.new }
+// The appended wires of two digits in a band.
+fn put_numbers(out: &mut [u8], band: Band, tens: u64, units: u64)
+    requires { (tens ≤ 9) × (units ≤ 9) × (band.lower ≤ 10 * tens + units) × (10 * tens + units ≤ band.upper) × (8 * wire_count (Axles band.lower band.upper) ≤ length out.old) }
+    ensures { Wrote tens_left 22 (numbers band.lower band.upper tens units) out.old out.new }
 {
     let axles = 10 * tens + units;
     put_number(out, WireNumber(TENS_LEFT), 4, 9 - tens);
     put_number(out, WireNumber(UNITS_LEFT), 4, 9 - units);
-    put_number(out, WireNumber(ABOVE_LOWER), 7, axles - lower);
-    put_number(out, WireNumber(BELOW_UPPER), 7, upper - axles);
+    put_number(out, WireNumber(ABOVE_LOWER), 7, axles - band.lower);
+    put_number(out, WireNumber(BELOW_UPPER), 7, band.upper - axles);
 }
 
-// All wires of a record that lies between the bounds: its own, and the appended ones.
-fn put_axles(out: &mut [u8], lower: u64, upper: u64, bytes: &[u8])
-    requires { (length bytes.now ≡ 63) × InBand lower upper bytes.now × (8 * wire_count (Axles lower upper) ≤ length out.old) }
-    ensures { Wrote 0 (wire_count (Axles lower upper)) (axle_wire_of lower upper (bit_of_bytes bytes.now)) out.old out.new }
+// All wires of a record that lies in the band: its own, and the appended ones.
+fn put_axles(out: &mut [u8], band: Band, bytes: &[u8])
+    requires { (length bytes.now ≡ 63) × InBand band.lower band.upper bytes.now × (8 * wire_count (Axles band.lower band.upper) ≤ length out.old) }
+    ensures { Wrote 0 (wire_count (Axles band.lower band.upper)) (axle_wire_of band.lower band.upper (bit_of_bytes bytes.now)) out.old out.new }
 {
     put_assignment(out, AXLE_BITS, bytes);
     let tens = wide(bytes[TENS]) - 48;
     let units = wide(bytes[UNITS]) - 48;
-    put_numbers(out, lower, upper, tens, units);
+    put_numbers(out, band, tens, units);
 }
 
 // The assignment of a record of 63 bytes between two bounds, into the first bytes of `out`.
@@ -62,16 +62,14 @@ pub fn produce(lower: u64, upper: u64, bytes: &[u8], out: &mut [u8]) -> Result<(
     ensures out_after { out.new ≡ axles_produce_left result lower upper bytes.now out.old }
 {
     ask_record(PARTNER_LIMIT, AXLE_BITS, bytes)?;
-    if !bounds_in_range(lower, upper) {
-        return Err(Refusal::BoundsOutOfRange);
-    }
-    if !in_band(lower, upper, bytes) {
+    let band = Band::new(lower, upper).ok_or(Refusal::BoundsOutOfRange)?;
+    if !in_band(band, bytes) {
         return Err(Refusal::NotInBand);
     }
-    let wires = wire_count(Circuit::Axles { lower, upper });
+    let wires = wire_count(band.circuit());
     if (out.len() as u64) < 8 * wires {
         return Err(Refusal::BufferTooShort);
     }
-    put_axles(out, lower, upper, bytes);
+    put_axles(out, band, bytes);
     Ok(())
 }

@@ -2,8 +2,7 @@
 ghost use Rattle.std.specs.Prelude.{◌≡◌, length};
 ghost use Rattle.axles.specs.RowAnswer.{axles_row_answer, axles_row_left};
 
-use circuit::axles::bounds_in_range;
-use circuit::circuits::Circuit;
+use circuit::band::Band;
 use circuit::given_row::give_row;
 use forms::terms::Counts;
 use refusal::numbers::RowNumber;
@@ -15,8 +14,6 @@ pub fn row(lower: u64, upper: u64, row: RowNumber, out: &mut [u8]) -> Result<Cou
     ensures value { result ≡ axles_row_answer lower upper row.0 (length out.old) }
     ensures out_after { out.new ≡ axles_row_left result lower upper row.0 out.old }
 {
-    if !bounds_in_range(lower, upper) {
-        return Err(Refusal::BoundsOutOfRange);
-    }
-    give_row(Circuit::Axles { lower, upper }, row, out)
+    let band = Band::new(lower, upper).ok_or(Refusal::BoundsOutOfRange)?;
+    give_row(band.circuit(), row, out)
 }

@@ -1,8 +1,9 @@
 // The rows that the circuit of axles between two bounds appends to a record's.
-ghost use Rattle.std.specs.Prelude.{◌≡◌, ◌<◌, ◌≤◌};
-ghost use Rattle.circuit.specs.Axles.{axle_form, axles, bounds_in_range, digit_of, high_half};
+ghost use Rattle.std.specs.Prelude.{◌≡◌, ◌<◌};
+ghost use Rattle.circuit.specs.Axles.{axle_form, axles, digit_of, high_half};
 ghost use Rattle.forms.specs.Terms.{Fit};
 
+use crate::band::Band;
 use forms::form::{Bound, Digits, Form};
 use forms::word_form::subtracted;
 use refusal::numbers::WireNumber;
@@ -23,14 +24,6 @@ pub const UNITS_LEFT: u64 = 45573;
 pub const ABOVE_LOWER: u64 = 45577;
 
 pub const BELOW_UPPER: u64 = 45584;
-
-// Whether two bounds are from 2 to 99, the lower no greater than the upper.
-#[tactic(auto, unfolding(crate::specs::Axles::bounds_in_range))]
-pub fn bounds_in_range(lower: u64, upper: u64) -> bool
-    ensures { result ≡ bounds_in_range lower upper }
-{
-    2 <= lower && lower <= upper && upper <= 99
-}
 
 // The digit of a byte: its low half.
 fn digit_of(byte: WireNumber) -> Digits
@@ -65,11 +58,11 @@ fn high_half(byte: WireNumber, l: u64) -> Form
     }
 }
 
-// Row k of those that are appended for two bounds.
+// Row k of those that are appended for a band.
 #[tactic(auto, unfolding(crate::specs::Axles::axle_form, encoding::specs::Sequence::beside))]
-pub fn axle_form(lower: u64, upper: u64, k: u64) -> Form
-    requires { (2 ≤ lower) × (lower ≤ upper) × (upper ≤ 99) × (k < 34) }
-    ensures { (result ≡ axle_form lower upper k) × Fit result }
+pub fn axle_form(band: Band, k: u64) -> Form
+    requires { k < 34 }
+    ensures { (result ≡ axle_form band.lower band.upper k) × Fit result }
 {
     let tens = WireNumber(TENS_BYTE);
     let units = WireNumber(UNITS_BYTE);
@@ -92,14 +85,14 @@ pub fn axle_form(lower: u64, upper: u64, k: u64) -> Form
         ),
         18..26 => subtracted(
             axle_digits(),
-            Bound::Lower(lower),
+            Bound::Lower(band.lower),
             7,
             WireNumber(ABOVE_LOWER),
             k - 18,
         ),
         _ => subtracted(
             axle_digits(),
-            Bound::Upper(upper),
+            Bound::Upper(band.upper),
             7,
             WireNumber(BELOW_UPPER),
             k - 26,

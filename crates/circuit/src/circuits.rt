@@ -9,6 +9,7 @@ ghost use Rattle.forms.specs.Terms.{Fit};
 ghost use Rattle.forms.specs.declared.form.Form.TheVariants.{Bit};
 
 use crate::axles::{AXLE_BITS, axle_form};
+use crate::band::Band;
 use crate::frame::FIRST_BLOCK;
 use crate::message::MessageSpan;
 use block::wire::BLOCK_WIRES;
@@ -110,6 +111,6 @@ pub fn appended_form(circuit: Circuit, k: u64) -> Form
 {
     match circuit {
         Circuit::Record { .. } => unreachable!(),
-        Circuit::Axles { lower, upper } => axle_form(lower, upper, k),
+        Circuit::Axles { lower, upper } => axle_form(Band { lower, upper }, k),
     }
 }

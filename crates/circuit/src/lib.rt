@@ -2,6 +2,7 @@
 #![tactic(auto)]
 
 pub mod axles;
+pub mod band;
 pub mod circuits;
 pub mod frame;
 pub mod given_row;

@@ -8,7 +8,7 @@ ghost use Rattle.listing.specs.Request.{asked, asked_axles, request_of};
 
 use crate::axle_line::parse_axles;
 use crate::line::parse;
-use circuit::axles::bounds_in_range;
+use circuit::band::Band;
 use circuit::circuits::Circuit;
 use circuit::place::row_count;
 use limits::limit::{OUR_LIMIT, ask_length};
@@ -61,18 +61,13 @@ fn record_request(line: &[u8]) -> Result<Rows, LineRefusal>
 }
 
 // What a line with two bounds asks for, or refusal 1, 18 or 3.
+#[tactic(auto, unfolding(crate::specs::Request::checked_axles))]
 fn axle_request(line: &[u8]) -> Result<Rows, LineRefusal>
     ensures { result ≡ asked_axles (parse_axles_of line.now) }
 {
     let parsed = parse_axles(line).ok_or(LineRefusal::BadLine)?;
-    if !bounds_in_range(parsed.lower, parsed.upper) {
-        return Err(LineRefusal::Refused(Refusal::BoundsOutOfRange));
-    }
-    let circuit = Circuit::Axles {
-        lower: parsed.lower,
-        upper: parsed.upper,
-    };
-    within(circuit, parsed.first, parsed.many)
+    let band = Band::new(parsed.lower, parsed.upper).ok_or(Refusal::BoundsOutOfRange)?;
+    within(band.circuit(), parsed.first, parsed.many)
 }
 
 // What a line asks for.

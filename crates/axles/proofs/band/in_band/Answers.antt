@@ -29,15 +29,15 @@ overflow_sub-axles-2 c =
 pub overflow_add-axles : goal.overflow_add-axles
 overflow_add-axles c = omega (arith, c.wide-units.ensures, c.wide-tens.ensures)
 
-pub returns-then-axles-lower : goal.returns-then-axles-lower
+pub returns-then-axles-band : goal.returns-then-axles-band
 unfolding in_band
-returns-then-axles-lower c =
+returns-then-axles-band c =
     rw (
       sym c.is_digit.ensures ∙ c.if-not-is_digit.false,
       sym c.is_digit-2.ensures ∙ c.if-not-is_digit-2.false,
       ← c.wide-tens.ensures.0,
       ← c.wide-units.ensures.0,
-      lt-leb _ _ c.if-axles-lower.true,
+      lt-leb _ _ c.if-axles-band.true,
     )
 
 pub returns : goal.returns
@@ -48,5 +48,5 @@ returns c =
       sym c.is_digit-2.ensures ∙ c.if-not-is_digit-2.false,
       ← c.wide-tens.ensures.0,
       ← c.wide-units.ensures.0,
-      le-leb _ _ c.if-axles-lower.false,
+      le-leb _ _ c.if-axles-band.false,
     )

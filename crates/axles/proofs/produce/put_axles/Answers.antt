@@ -16,7 +16,7 @@ use Rattle.axles.proofs.produce.put_axles.Goals as goal
 
 pub put_assignment-requires : goal.put_assignment-requires
 put_assignment-requires c =
-    (omega arith, omega (arith, c.requires.0), omega (arith, c.requires.2, record_wires, axle_wires c.args.lower c.args.upper))
+    (omega arith, omega (arith, c.requires.0), omega (arith, c.requires.2, record_wires, axle_wires c.args.band.lower c.args.band.upper))
 
 pub bounds-bytes-17 : goal.bounds-bytes-17
 bounds-bytes-17 c = omega (arith, c.requires.0)
@@ -51,8 +51,8 @@ returns c =
     let t : c.wide-tens.result - 48 ≡ tens (bit_of_bytes bytes) = omega (arith, c.wide-tens.ensures.0, band.tens, low_half bytes tens_place) in
     let u : c.wide-units.result - 48 ≡ units (bit_of_bytes bytes) = omega (arith, c.wide-units.ensures.0, band.units, low_half bytes units_place) in
     let place : tens_left ≡ 0 + wire_count (Record axle_bits) = omega (arith, record_wires) in
-    let all : wire_count (Record axle_bits) + 22 ≡ wire_count (Axles a.lower a.upper) =
-    omega (arith, record_wires, axle_wires a.lower a.upper) in
-    subst (λ (n : ℕ). Wrote 0 n (axle_wire_of a.lower a.upper (bit_of_bytes bytes)) a.out.now c.put_numbers.new.out) all
+    let all : wire_count (Record axle_bits) + 22 ≡ wire_count (Axles a.band.lower a.band.upper) =
+    omega (arith, record_wires, axle_wires a.band.lower a.band.upper) in
+    subst (λ (n : ℕ). Wrote 0 n (axle_wire_of a.band.lower a.band.upper (bit_of_bytes bytes)) a.out.now c.put_numbers.new.out) all
     (wrote_then tens_left place c.put_assignment.ensures
-    (wrote_as (ap₂ (numbers a.lower a.upper) t u) c.put_numbers.ensures))
+    (wrote_as (ap₂ (numbers a.band.lower a.band.upper) t u) c.put_numbers.ensures))

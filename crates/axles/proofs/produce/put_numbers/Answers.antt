@@ -9,18 +9,18 @@ use Rattle.axles.proofs.produce.put_numbers.Goals as goal
 
 pub put_number-requires : goal.put_number-requires
 put_number-requires c =
-    omega (arith, c.requires.4, axle_wires c.args.lower c.args.upper)
+    omega (arith, c.requires.4, axle_wires c.args.band.lower c.args.band.upper)
 
 pub put_number-requires-2 : goal.put_number-requires-2
 put_number-requires-2 c =
-    omega (arith, c.requires.4, axle_wires c.args.lower c.args.upper, length-wrote c.put_number.ensures)
+    omega (arith, c.requires.4, axle_wires c.args.band.lower c.args.band.upper, length-wrote c.put_number.ensures)
 
 pub put_number-requires-3 : goal.put_number-requires-3
 put_number-requires-3 c =
     omega (
       arith,
       c.requires.4,
-      axle_wires c.args.lower c.args.upper,
+      axle_wires c.args.band.lower c.args.band.upper,
       length-wrote c.put_number.ensures,
       length-wrote c.put_number-2.ensures,
     )
@@ -30,7 +30,7 @@ put_number-requires-4 c =
     omega (
       arith,
       c.requires.4,
-      axle_wires c.args.lower c.args.upper,
+      axle_wires c.args.band.lower c.args.band.upper,
       length-wrote c.put_number.ensures,
       length-wrote c.put_number-2.ensures,
       length-wrote c.put_number-3.ensures,
