@@ -1,8 +1,7 @@
 -- What the answer about a line's bytes says: 16 is asked of all 63 places, and behind that lane and axles decide.
-use Rattle.refusal.specs.declared.outcome.Refusal.{Refusal}
 use Rattle.refusal.specs.Refusals.{Outcome, done}
-use Rattle.std.specs.Prelude.{Err, Ok, Result}
-use mathlib.Core.Bool.{Bool, false, true, true≢false, and-eq-true_iff, not}
+use Rattle.std.specs.Prelude.{Err, Ok}
+use mathlib.Core.Bool.{false, and-eq-true_iff, not}
 use mathlib.Core.List.{List}
 use mathlib.Core.Logic.Iff
 use mathlib.Core.Logic.{◌↔◌}
@@ -147,17 +146,9 @@ digits_read s e =
     }
 
 -- What is read.
-abbrev is_given : Result Numbers Refusal → Bool
-is_given (Ok n) = true
-is_given (Err r) = false
-
-abbrev numbers_or : Numbers → Result Numbers Refusal → Numbers
-numbers_or none (Ok n) = n
-numbers_or none (Err r) = none
-
 given-next : (o : Outcome) (m n : Numbers) → next o Err (Ok m) ≡ Ok n → (o ≡ done) × (m ≡ n)
-given-next (Ok _) m n e = (refl, ap (numbers_or m) e)
-given-next (Err r) m n e = absurd (true≢false (sym (ap is_given e)))
+given-next (Ok _) m n e = (refl, cc)
+given-next (Err r) m n e = cc
 
 module _ (s : List ℕ) where
   pub read_done : (n : Numbers) → read_answer s ≡ Ok n → (line_answer s ≡ done) × (numbers_in s ≡ n)
