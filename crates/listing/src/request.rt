@@ -48,7 +48,8 @@ fn within(circuit: Circuit, first: u64, many: u64) -> Result<Rows, LineRefusal>
     })
 }
 
-// What a line with a length asks for, or refusal 1, 2 or 3.
+// What a line with a length asks for, or refusal 1, 2 or 3. This function and the next differ in the line, the test and the circuit: one for both
+// would take all three as closures, and be longer.
 fn record_request(line: &[u8]) -> Result<Rows, LineRefusal>
     ensures { result ≡ asked (parse_of line.now) }
 {

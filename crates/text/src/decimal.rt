@@ -19,7 +19,7 @@ pub fn is_digit_or(first: u8, last: u8, c: u8) -> bool
     is_digit(c) || (first <= c && c <= last)
 }
 
-// The digits of x from `at` on.
+// The digits of x from `at` on. By hand, since `write!` would want a writer over the buffer, with a contract of its own.
 pub fn put_decimal(out: &mut [u8], at: usize, x: u64) -> usize
     requires { at + 20 ≤ length out.old }
     ensures { Put out.old at (decimal x) out.new result × (result ≤ at + 20) }

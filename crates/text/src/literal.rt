@@ -1,4 +1,5 @@
-// Texts written into a lent buffer.
+// Texts written into a lent buffer. Each function here takes the buffer and a place, and gives the place behind: a struct of both would be no
+// plainer, since its contracts would still name the buffer and the place before and after.
 ghost use Rattle.std.specs.Prelude.{◌+◌, ◌≤◌, length};
 ghost use Rattle.text.specs.Put.{Put};
 
