@@ -7,7 +7,7 @@ use crate::circuits::Circuit;
 use crate::place::row_count;
 use crate::row::row_terms;
 use forms::term_bytes::put_terms;
-use forms::terms::Counts;
+use forms::terms::{Counts, RowTerms};
 use refusal::numbers::RowNumber;
 use refusal::outcome::Refusal;
 
@@ -29,7 +29,8 @@ pub fn give_row(circuit: Circuit, row: RowNumber, out: &mut [u8]) -> Result<Coun
     if out.len() < ROW_BYTES {
         return Err(Refusal::BufferTooShort);
     }
-    let terms = row_terms(circuit, row);
+    let mut terms = RowTerms::new();
+    row_terms(circuit, row, &mut terms);
     put_terms(&terms, out);
     Ok(terms.counts())
 }

@@ -21,14 +21,13 @@ pub fn form_at(circuit: Circuit, row: RowNumber) -> Form
     form_of(circuit, place_of(block_count(circuit), row))
 }
 
-// The terms of a row of a circuit, each part by rising wire.
+// The terms of a row of a circuit, each part by rising wire. `terms` is room for them, which a caller makes once: made for each row, it took
+// the listing twice the time.
 #[tactic(auto, using(crate::proofs::row::SameForm::row_sorted))]
-pub fn row_terms(circuit: Circuit, row: RowNumber) -> RowTerms
+pub fn row_terms(circuit: Circuit, row: RowNumber, terms: &mut RowTerms)
     requires { Allowed circuit × (row.0 < row_count circuit) }
-    ensures { result ≡ held (row_at circuit row.0) }
+    ensures { terms.new ≡ held (row_at circuit row.0) }
 {
-    let mut terms = RowTerms::new();
-    fill(form_at(circuit, row), &mut terms);
+    fill(form_at(circuit, row), terms);
     terms.sort();
-    terms
 }

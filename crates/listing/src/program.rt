@@ -3,6 +3,7 @@
 use crate::progress::{Listing, begin, next_chunk};
 use crate::request::Front;
 use console::{print, read_input};
+use forms::terms::RowTerms;
 use std::io;
 
 // Prints what a line asks for, chunk after chunk.
@@ -13,9 +14,10 @@ pub fn print_listing(
     line: &[u8],
 ) -> io::Result<()> {
     let mut out = [0u8; 65536];
+    let mut terms = RowTerms::new();
     let mut progress = Some(begin(front, line));
     while let Some(now) = progress {
-        let chunk = next_chunk(listing, now, &mut out);
+        let chunk = next_chunk(listing, now, &mut out, &mut terms);
         print(rt, &out[..chunk.bytes])?;
         progress = chunk.next;
     }

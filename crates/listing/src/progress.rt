@@ -11,6 +11,7 @@ use crate::request::{Front, Rows, request_of};
 use crate::step::{STEP_ROOM, put_step_line};
 use crate::term::{ROW_ROOM, put_row};
 use circuit::circuits::Circuit;
+use forms::terms::RowTerms;
 use refusal::line::LineRefusal;
 use refusal::numbers::RowNumber;
 use text::literal::put_text;
@@ -70,13 +71,20 @@ fn put_header(listing: Listing, out: &mut [u8]) -> usize
     }
 }
 
-// The lines of a row.
-fn put_lines(listing: Listing, out: &mut [u8], at: usize, circuit: Circuit, row: RowNumber) -> usize
+// The lines of a row. `terms` is room for its terms.
+fn put_lines(
+    listing: Listing,
+    out: &mut [u8],
+    at: usize,
+    circuit: Circuit,
+    row: RowNumber,
+    terms: &mut RowTerms,
+) -> usize
     requires { (at + room listing ≤ length out.old) × Allowed circuit × (row.0 < row_count circuit) }
     ensures { Put out.old at (lines listing circuit row.0) out.new result × (result ≤ at + room listing) }
 {
     match listing {
-        Listing::Rows => put_row(out, at, circuit, row),
+        Listing::Rows => put_row(out, at, circuit, row, terms),
         Listing::Steps => put_step_line(out, at, circuit, row),
     }
 }
@@ -99,7 +107,7 @@ fn first_chunk(listing: Listing, request: Result<Rows, LineRefusal>, out: &mut [
 }
 
 // The lines of rows, all or as many as the buffer holds.
-fn fill(listing: Listing, rows: Rows, out: &mut [u8]) -> Chunk
+fn fill(listing: Listing, rows: Rows, out: &mut [u8], terms: &mut RowTerms) -> Chunk
     requires { (room listing ≤ length out.old) × RowsExist rows }
     ensures { Handed listing (Progress.Lines rows) out.old out.new result }
 {
@@ -117,7 +125,7 @@ fn fill(listing: Listing, rows: Rows, out: &mut [u8]) -> Chunk
                 next: Some(Progress::Lines(left)),
             };
         }
-        at = put_lines(listing, out, at, rows.circuit, RowNumber(k));
+        at = put_lines(listing, out, at, rows.circuit, RowNumber(k), terms);
     }
     Chunk {
         bytes: at,
@@ -125,13 +133,18 @@ fn fill(listing: Listing, rows: Rows, out: &mut [u8]) -> Chunk
     }
 }
 
-// The next chunk, at the front of `out`.
-pub fn next_chunk(listing: Listing, progress: Progress, out: &mut [u8]) -> Chunk
+// The next chunk, at the front of `out`. `terms` is room for the terms of a row.
+pub fn next_chunk(
+    listing: Listing,
+    progress: Progress,
+    out: &mut [u8],
+    terms: &mut RowTerms,
+) -> Chunk
     requires { (room listing ≤ length out.old) × Possible progress }
     ensures { Handed listing progress out.old out.new result × IfPossible result.next }
 {
     match progress {
         Progress::Begun(request) => first_chunk(listing, request, out),
-        Progress::Lines(rows) => fill(listing, rows, out),
+        Progress::Lines(rows) => fill(listing, rows, out, terms),
     }
 }

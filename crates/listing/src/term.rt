@@ -14,6 +14,7 @@ use circuit::circuits::Circuit;
 use circuit::row::row_terms;
 use forms::coefficient::coefficient_of;
 use forms::form::Term;
+use forms::terms::RowTerms;
 use refusal::numbers::RowNumber;
 use text::decimal::put_field;
 
@@ -59,12 +60,18 @@ fn put_part(out: &mut [u8], at: usize, row: RowNumber, part: u8, terms: &[Term])
     end
 }
 
-// The lines of a row of a circuit.
-pub fn put_row(out: &mut [u8], at: usize, circuit: Circuit, row: RowNumber) -> usize
+// The lines of a row of a circuit. `terms` is room for its terms.
+pub fn put_row(
+    out: &mut [u8],
+    at: usize,
+    circuit: Circuit,
+    row: RowNumber,
+    terms: &mut RowTerms,
+) -> usize
     requires { (at + row_room ≤ length out.old) × Allowed circuit × (row.0 < row_count circuit) }
     ensures { Put out.old at (row_lines circuit row.0) out.new result × (result ≤ at + row_room) }
 {
-    let terms = row_terms(circuit, row);
+    row_terms(circuit, row, terms);
     let a = put_part(out, at, row, b'A', terms.a.as_slice());
     let b = put_part(out, a, row, b'B', terms.b.as_slice());
     put_part(out, b, row, b'C', terms.c.as_slice())
