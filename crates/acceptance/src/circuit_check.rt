@@ -1,5 +1,5 @@
 // The check of an assignment of a circuit against a digest: what every circuit's check asks, behind the refusals of its own.
-ghost use Rattle.std.specs.Prelude.{◌≡◌, ℕ, ◌+◌, ◌*◌, ◌≤◌, length};
+ghost use Rattle.std.specs.Prelude.{◌≡◌, ℕ, ◌+◌, ◌*◌, ◌<◌, ◌≤◌, length};
 ghost use Rattle.assignment.specs.Assignment.{entry};
 ghost use Rattle.circuit.specs.Ranges.{Allowed};
 ghost use Rattle.encoding.specs.Bits.{bit_of_bytes};
@@ -20,12 +20,11 @@ fn digest_agrees(digest: &[u8], assignment: &[u8]) -> bool
     requires { (length digest.now ≡ 32) × (8 * 257 ≤ length assignment.now) }
     ensures { result ≡ same 256 (λ (k : ℕ). entry assignment.now (1 + k)) (bit_of_bytes digest.now) }
 {
-    for k in 0..256 {
-        if read(assignment, WireNumber(1 + k)) != bit_at(digest, k) {
-            return false;
-        }
-    }
-    true
+    (0..256).all(
+        |k|
+            requires { (k < 256) × (length digest.now ≡ 32) × (8 * 257 ≤ length assignment.now) }
+        { read(assignment, WireNumber(1 + k)) == bit_at(digest, k) },
+    )
 }
 
 // The check of an assignment of a circuit against a digest.

@@ -24,7 +24,7 @@ pub fn number_from(assignment: &[u8], w: WireNumber) -> u64
     let mut number: u64 = 0;
     for i in 0..32 {
         let n = read(assignment, WireNumber(w.0 + i));
-        number = std::num::wrapping_add_u64(std::num::wrapping_add_u64(number, number), n);
+        number = number.wrapping_add(number).wrapping_add(n);
     }
     number
 }
@@ -38,7 +38,7 @@ pub fn read_standing(assignment: &[u8], w: WireNumber) -> Standing
     let mut seen: u64 = 0;
     for i in 0..32 {
         let n = read(assignment, WireNumber(w.0 + i));
-        number = std::num::wrapping_add_u64(std::num::wrapping_add_u64(number, number), n);
+        number = number.wrapping_add(number).wrapping_add(n);
         seen = seen | n;
     }
     Standing { number, seen }

@@ -2,4 +2,5 @@ pub mod Entries
 pub mod EntriesBelow
 pub mod HashSums
 pub mod OneMore
+pub mod Places
 pub mod Writes

@@ -1,4 +1,6 @@
-// Entries written into a lent buffer from a wire on: one value, and the wires of a word, of words one after the other, and of a sum.
+// Entries written into a lent buffer from a wire on: one value, and the wires of a word, of words one after the other, and of a sum. That the
+// buffer has room for them is asked at each, in its own number of wires: a struct of buffer and wire is no plainer, since each call is at another
+// wire and would make one.
 ghost use Rattle.std.specs.Prelude.{◌≡◌, ℕ, ◌+◌, ◌*◌, ◌<◌, ◌≤◌, length, slice_index};
 ghost use Rattle.assignment.specs.Sum.{IsSum};
 ghost use Rattle.assignment.specs.Wrote.{Wrote};
@@ -14,12 +16,13 @@ use sm3::state::State;
 
 // Bit i of a word, from the highest. Said as a difference that might wrap, a bit tells the compiler nothing of its size, so
 // that it stores an entry's eight bytes at once; from `% 2` it makes three stores an entry, at twice the time.
+#[tactic(auto, unfolding(sm3::specs::Words::bit))]
 fn bit_of(x: u32, i: u64) -> u64
     requires { i < 32 }
     ensures { result ≡ bit i x }
 {
     let y = (x >> (31 - i)) as u64;
-    std::num::wrapping_sub_u64(y, y / 2 * 2)
+    y.wrapping_sub(y / 2 * 2)
 }
 
 // The entry of wire w: 8 bytes, the least first.

@@ -1,6 +1,6 @@
 // Runs of rows that hold because of what their wires are: the start rows, those of a block, those of the digest, those of the
 // appendix.
-ghost use Rattle.std.specs.Prelude.{true, ◌≡◌, ℕ, ◌+◌, ◌-◌, ◌*◌, ◌<◌, ◌≤◌};
+ghost use Rattle.std.specs.Prelude.{true, ◌≡◌, ℕ, ◌+◌, ◌-◌, ◌*◌, ◌<◌, ◌≤◌, length};
 ghost use Rattle.assignment.specs.Assignment.{entry};
 ghost use Rattle.block.specs.Wires.{result_at};
 ghost use Rattle.circuit.specs.Circuits.{block_count};
@@ -25,13 +25,14 @@ impl Candidate<'_> {
         ensures { result ≡ true → (k : ℕ) → k < 256 → entry self.now.assignment.now (digest_first + k) ≡ entry self.now.assignment.now (block_first (block_count self.now.circuit - 1) + result_at + k) }
     {
         let last = block_first(block_count(self.circuit) - 1);
-        for k in 0..256 {
-            let copy = read(self.assignment, WireNumber(DIGEST + k));
-            if copy != read(self.assignment, WireNumber(last.0 + RESULT + k)) {
-                return false;
-            }
-        }
-        true
+        (0..256).all(
+            |k|
+                requires { (k < 256) × (8 * (last.0 + result_at + 256) ≤ length self.now.assignment.now) × (8 * (digest_first + 256) ≤ length self.now.assignment.now) }
+            {
+                let copy = read(self.assignment, WireNumber(DIGEST + k));
+                copy == read(self.assignment, WireNumber(last.0 + RESULT + k))
+            },
+        )
     }
 
     // How many rows from `row` on hold because of what their wires are. Only where a run of rows begins is it asked: at the first start

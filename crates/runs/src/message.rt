@@ -27,7 +27,8 @@ fn content_bits(bits: u64, at: u64) -> u64
     512
 }
 
-// Whether the padding in block i of a message stands on the block's wires.
+// Whether the padding in block i of a message stands on the block's wires. As `all` over the places it is no plainer: what a padding bit asks
+// of its place would be said once more, at the closure.
 pub fn padding_agrees(assignment: &[u8], message: MessageSpan, i: u64) -> bool
     requires { OfMessage message i × (8 * (block_first i + 512) ≤ length assignment.now) }
     ensures { result ≡ true → Padded message i assignment.now }

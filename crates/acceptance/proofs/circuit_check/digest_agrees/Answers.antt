@@ -1,35 +1,26 @@
--- The digest wires below k read as the digest's bits. One that does not decides the answer.
-use mathlib.Core.Path.{◌∙◌, sym}
-use Prim.Native.Nat.{◌+◌}
-use native.Mathlib.Omega.{arith}
-use borrow.Author.Count.{below_more, below_none}
+-- Each digest wire reads as its bit of the digest where `all` says so; where it does not, a wire is another.
+use Rattle.std.proofs.Common.{◌≡◌, ℕ, ◌+◌, ◌<◌, ◌≤◌, Bool, true, false, sym, refl, arith, rules, tests}
+use Rattle.std.proofs.lemmas.Iterator.{YieldsList-from_range, cases_from_all}
+use Rattle.std.specs.Bool.{MatchBool}
+use Rattle.assignment.proofs.Places.{all_places}
 use Rattle.assignment.specs.Assignment.{entry}
 use Rattle.encoding.specs.Bits.{bit_of_bytes}
 use Rattle.acceptance.proofs.Acceptance.{same_iff}
 use Rattle.acceptance.proofs.circuit_check.Refusals.{differs}
+use Rattle.acceptance.specs.Check.{same}
 use Rattle.acceptance.proofs.circuit_check.digest_agrees.Goals as goal
 
-pub loop-k-init : goal.loop-k-init
-loop-k-init c = (omega arith, below_none _)
-
-pub returns-then-read-bit_at : goal.returns-then-read-bit_at
-returns-then-read-bit_at c =
-    let a = c.args in
-    sym
-    (differs 256 (λ k. entry a.assignment.now (1 + k)) (bit_of_bytes a.digest.now)
-    c.loop-k.k c.loop-k-test.true
-    (λ e. c.if-read-bit_at.true (c.read.ensures ∙ e ∙ sym c.bit_at.ensures)))
-
-pub loop-k-preserved : goal.loop-k-preserved
-loop-k-preserved c = (
-  omega arith,
-  below_more _ _ c.loop-k.invariant.1
-      (sym c.read.ensures ∙ c.if-read-bit_at.false ∙ c.bit_at.ensures),
-)
+told : (f g : ℕ → ℕ) (r : Bool)
+    → MatchBool r ((k : ℕ) → 0 ≤ k → k < 0 + 256 → f k ≡ g k) ((k : ℕ) × (0 ≤ k) × (k < 0 + 256) × (f k ≡ g k → ⊥)) → r ≡ same 256 f g
+told f g true all = sym ((same_iff 256 f g).1 (λ k l. all k (omega arith) (omega arith)))
+told f g false (k, _, l, other) = sym (differs 256 f g k (omega arith) other)
 
 pub returns : goal.returns
 returns c =
     let a = c.args in
-    sym
-    ((same_iff 256 (λ k. entry a.assignment.now (1 + k)) (bit_of_bytes a.digest.now)).1
-    (λ k l. c.loop-k.invariant.1 k (omega arith)))
+    let f : ℕ → ℕ = λ k. entry a.assignment.now (1 + k) in
+    let g : ℕ → ℕ = bit_of_bytes a.digest.now in
+    told f g _
+    (all_places 0 256 (λ k. f k ≡ g k) (λ k. f k ≡ g k → ⊥) _
+    (cases_from_all _ _ _ (λ k. f k ≡ g k) (λ k. f k ≡ g k → ⊥) c.all.ensures.ran (YieldsList-from_range 0 256 256 refl refl)
+    (λ x q k. search (rules, tests)) (λ x q k. search (rules, tests))))

@@ -1,5 +1,5 @@
 -- Before turn i the number is what the first i bits write, where all entries are bits.
-use Rattle.std.proofs.Common.{◌≡◌, arith}
+use Rattle.std.proofs.Common.{◌≡◌, refl, arith}
 use Rattle.agreement.proofs.word_read.BitByBit.{next_bit, no_bit}
 use Rattle.agreement.proofs.word_read.number_from.Goals as goal
 
@@ -8,7 +8,7 @@ loop-i-init c = (omega arith, λ bits. no_bit _ _)
 
 pub loop-i-preserved : goal.loop-i-preserved
 loop-i-preserved c =
-    (omega arith, next_bit c.loop-i-test.true c.read-n.ensures c.wrapping_add_u64.ensures.value c.wrapping_add_u64-number.ensures.value c.loop-i.invariant.1)
+    (omega arith, next_bit c.loop-i-test.true c.read-n.ensures refl refl c.loop-i.invariant.1)
 
 pub returns : goal.returns
 returns c =

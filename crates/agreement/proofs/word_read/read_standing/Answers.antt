@@ -1,6 +1,6 @@
 -- Before turn i none of the first i entries is above what was seen, and the number is what they write, where all entries are bits. Where
 -- nothing above 1 was seen they are.
-use Rattle.std.proofs.Common.{◌≡◌, arith}
+use Rattle.std.proofs.Common.{◌≡◌, refl, arith}
 use Rattle.assignment.proofs.EntriesBelow.{none_seen, one_seen}
 use Rattle.agreement.proofs.word_read.BitByBit.{next_bit, no_bit, seen_bits}
 use Rattle.agreement.proofs.word_read.read_standing.Goals as goal
@@ -12,7 +12,7 @@ pub loop-i-preserved : goal.loop-i-preserved
 loop-i-preserved c = (
   omega arith,
   one_seen c.read-n.ensures c.loop-i.invariant.1,
-  next_bit c.loop-i-test.true c.read-n.ensures c.wrapping_add_u64.ensures.value c.wrapping_add_u64-number.ensures.value c.loop-i.invariant.2,
+  next_bit c.loop-i-test.true c.read-n.ensures refl refl c.loop-i.invariant.2,
 )
 
 pub returns : goal.returns

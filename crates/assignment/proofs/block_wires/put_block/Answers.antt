@@ -35,17 +35,6 @@ bits_wrote {w} {out} {out'} bits x h full e wrote =
     wrote-same bits (block-bits bits (take 16 x) h e)
     (subst (λ n. Wrote w (32 * n) (grid 32 (λ j. word_wires (get_or (take 16 x) j 0))) out out') (length-take-le 16 x full) wrote)
 
-pub overflow_add-w-4 : goal.overflow_add-w-4
-overflow_add-w-4 c = omega (arith, c)
-
-pub put_state-requires : goal.put_state-requires
-put_state-requires c =
-    omega (arith, c, c.put_rounds-s.auto, c.put_w_primes.auto, c.put_expanded_words.auto, c.put_words.auto)
-
-pub shape_of-out : goal.shape_of-out
-shape_of-out c =
-    c.put_state.auto.out ∙ c.put_rounds-s.auto.out ∙ c.put_w_primes.auto.out ∙ c.put_expanded_words.auto.out ∙ c.put_words.auto.out
-
 pub returns : goal.returns
 unfolding block block_wires computed_wires
 returns c =

@@ -1,10 +1,7 @@
 -- Before each turn all entries below wire w are below the limit, so the answer is that of the wires from w on.
-use Rattle.std.proofs.Common.{sym, refl, ◌∙◌, arith}
+use Rattle.std.proofs.Common.{sym, ◌∙◌, arith}
 use Rattle.assignment.proofs.EntriesBelow.{asked_below, asked_end, asked_not_below}
 use Rattle.assignment.proofs.bounded.lowest_asked.Goals as goal
-
-pub loop-w-init : goal.loop-w-init
-loop-w-init c = (omega arith, refl)
 
 pub returns-then-limit-read : goal.returns-then-limit-read
 returns-then-limit-read c =

@@ -5,6 +5,3 @@ use Rattle.assignment.proofs.bounded.lowest_in_run.Goals as goal
 
 pub returns-then-seen_from-limit : goal.returns-then-seen_from-limit
 returns-then-seen_from-limit c = sym (seen_below _ _ _ _ _ c.if-seen_from-limit.true c.seen_from.ensures)
-
-pub returns : goal.returns
-returns c = c.lowest_asked.ensures

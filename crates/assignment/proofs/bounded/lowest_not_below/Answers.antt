@@ -1,7 +1,6 @@
 -- Before each turn all entries of the runs before are below the limit, so the answer is that of the wires from there on; a run that has an
 -- entry that is not decides it.
-use Rattle.std.proofs.Common.{◌≡◌, ℕ, ◌+◌, ◌-◌, ◌*◌, ◌/◌, sym, ap, ◌∙◌, arith}
-use native.Mathlib.Nat.{sub-zero}
+use Rattle.std.proofs.Common.{◌≡◌, ℕ, ◌+◌, ◌-◌, ◌*◌, sym, ap, ◌∙◌, arith}
 use Rattle.assignment.proofs.EntriesBelow.{run_below, run_found}
 use Rattle.assignment.specs.Bounded.{lowest_not_below}
 use Rattle.assignment.proofs.bounded.lowest_not_below.Goals as goal
@@ -12,9 +11,6 @@ run_length j = omega arith
 
 next-run : (j : ℕ) → 256 * j + 256 ≡ 256 * (j + 1)
 next-run j = omega arith
-
-pub loop-j-init : goal.loop-j-init
-loop-j-init c = (omega arith, ap (lowest_not_below _ _ 0) (sym (sub-zero _)))
 
 pub returns-in-Some : goal.returns-in-Some
 returns-in-Some c =
@@ -34,10 +30,3 @@ loop-j-preserved c =
           (ap (lowest_not_below _ _ (256 * l.j)) (run_length l.j) ∙ sym c.lowest_in_run-lowest.ensures ∙ c.in_default.is)
           ∙ ap (λ k. lowest_not_below a.limit a.assignment.now k (a.n - k)) (next-run l.j),
     )
-
-pub returns : goal.returns
-returns c =
-    let l = c.loop-j in
-    let a = c.args in
-    let last : 256 * (a.n / 256) ≡ 256 * l.j = omega arith in
-    c.lowest_in_run.ensures ∙ ap (λ k. lowest_not_below a.limit a.assignment.now k (a.n - k)) last ∙ sym l.invariant.1

@@ -1,6 +1,6 @@
 -- Before turn j the array has the words before W(16+j), and their wires are written. Wj and q read only words before it, so
 -- they are those of the whole expansion.
-use Rattle.std.proofs.Common.{◌≡◌, ◌+◌, sym, refl, ◌∙◌, arith, length-set, take_all}
+use Rattle.std.proofs.Common.{◌+◌, refl, ◌∙◌, arith, length-set}
 use Rattle.assignment.proofs.OneMore.{expanded-wires}
 use Rattle.assignment.proofs.Writes.{length-wrote, wrote_as, wrote_none, wrote-row}
 use Rattle.block.specs.BlockWires.{expansion_wires}
@@ -10,9 +10,6 @@ use Rattle.assignment.proofs.expansion.put_expanded_words.Goals as goal
 
 pub loop-j-init : goal.loop-j-init
 loop-j-init c = (omega arith, c.requires.0, refl, λ bits e. (e, wrote_none _ _ _))
-
-pub put_expanded-requires : goal.put_expanded-requires
-put_expanded-requires c = omega arith
 
 pub loop-j-preserved : goal.loop-j-preserved
 loop-j-preserved c =
@@ -30,14 +27,3 @@ loop-j-preserved c =
                 (expanded-wires bits x (16 + j) (omega arith) (omega arith) known.0 refl refl put.ensures.value) put.ensures.wrote),
           ),
     )
-
-pub shape_of-out : goal.shape_of-out
-shape_of-out c = c.loop-j.invariant.2
-
-pub returns : goal.returns
-returns c =
-    let l = c.loop-j in
-    let all : l.j ≡ 52 = omega arith in
-    λ bits e.
-    let known = l.invariant.3 bits e in
-    (sym (take_all 68 l.x (omega arith)) ∙ (rw all at known.0), rw all at known.1)

@@ -1,7 +1,7 @@
 -- Before turn j the state is what j rounds have made of v, and the wires of these rounds are written.
-use Rattle.std.proofs.Common.{◌≡◌, refl, ap, arith}
+use Rattle.std.proofs.Common.{refl, ap, arith}
 use Rattle.assignment.proofs.OneMore.{one-round}
-use Rattle.assignment.proofs.Writes.{length-wrote, wrote_as, wrote_none, wrote-row}
+use Rattle.assignment.proofs.Writes.{wrote_as, wrote_none, wrote-row}
 use Rattle.block.specs.BlockWires.{round_wires}
 use Rattle.sm3.specs.Sm3.{rounds}
 use Rattle.assignment.proofs.rounds.put_rounds.Goals as goal
@@ -9,10 +9,6 @@ use Rattle.assignment.proofs.rounds.put_rounds.Goals as goal
 pub loop-j-init : goal.loop-j-init
 unfolding rounds
 loop-j-init c = (omega arith, refl, wrote_none _ _ _)
-
-pub put_round-s-requires : goal.put_round-s-requires
-put_round-s-requires c =
-    (omega arith, omega (arith, length-wrote c.loop-j.invariant.2))
 
 pub loop-j-preserved : goal.loop-j-preserved
 loop-j-preserved c =
@@ -25,15 +21,3 @@ loop-j-preserved c =
       wrote-row (λ j. round_wires x j (rounds x a.v j)) j _ refl c.loop-j.invariant.2
           (wrote_as (ap (round_wires x j) c.loop-j.invariant.1) put.ensures.wrote),
     )
-
-pub shape_of-out : goal.shape_of-out
-shape_of-out c = length-wrote c.loop-j.invariant.2
-
-pub returns : goal.returns
-returns c =
-    let l = c.loop-j in
-    let all : l.j ≡ 64 = omega arith in
-    record {
-      value = rw all at l.invariant.1;
-      wrote = rw all at l.invariant.2;
-    }

@@ -1,39 +1,35 @@
--- Before turn k the first k wires are copied.
-use mathlib.Core.Bool.{false≢true}
-use mathlib.Core.Path.{◌∙◌, ap, sym}
-use Prim.Native.Nat.{◌+◌, ◌-◌}
-use native.Mathlib.Omega.{arith}
-use borrow.Author.Count.{below_more, below_none}
+-- Both wires of each bit are the assignment's, and where `all` says so the one has what the other has.
+use Rattle.std.proofs.Common.{◌≡◌, ℕ, ◌+◌, ◌-◌, Bool, true, refl, ap, ◌∙◌, subst, arith, rules, tests}
+use Rattle.std.proofs.lemmas.Iterator.{YieldsList-from_range, cases_from_all, serves_from_Range}
+use Rattle.std.specs.Bool.{MatchBool}
+use Rattle.assignment.proofs.Places.{all_places}
 use Rattle.assignment.specs.Assignment.{entry}
 use Rattle.block.specs.Wires.{result_at}
-use Rattle.circuit.specs.Wires.{block_first, wire_count}
+use Rattle.circuit.specs.Wires.{block_first, digest_first, wire_count}
 use Rattle.runs.proofs.candidate.Candidate.digest_is_copied.Goals as goal
 
-pub block_count-requires : goal.block_count-requires
-block_count-requires c = c.args.self.now.allowed
+told : (A B : Type 0) (r : Bool) → MatchBool r A B → r ≡ true → A
+told A B r h e = subst (λ r. MatchBool r A B) e h
 
-pub loop-k-init : goal.loop-k-init
-loop-k-init c = (omega arith, below_none _)
-
-pub read-copy-requires : goal.read-copy-requires
+pub all-requires-clause-callable : goal.all-requires-clause-callable
 unfolding wire_count
-read-copy-requires c = omega (arith, c.args.self.now.whole)
-
-pub read-requires : goal.read-requires
-unfolding wire_count
-read-requires c =
-    omega (arith, c.block_first-last.ensures.0, c.block_count.ensures, c.args.self.now.whole)
-
-pub returns-then-copy-read : goal.returns-then-copy-read
-returns-then-copy-read c = λ e. absurd (false≢true e)
-
-pub loop-k-preserved : goal.loop-k-preserved
-loop-k-preserved c = (
-  omega arith,
-  below_more _ _ c.loop-k.invariant.1 (sym c.read-copy.ensures ∙ c.if-copy-read.false ∙ c.read.ensures),
-)
+all-requires-clause-callable c =
+    let s = c.args.self.now in
+    serves_from_Range (λ x q k. search (rules, tests))
+    (λ x low high.
+    (omega arith, omega (arith, c.block_first-last.ensures.0, c.block_count.ensures, s.whole), omega (arith, s.whole)))
 
 pub returns : goal.returns
 returns c =
+    let s = c.args.self.now in
+    let F : ℕ = c.block_first-last.result.0 in
+    let f : ℕ → ℕ = λ k. entry s.assignment.now (digest_first + k) in
+    let g : ℕ → ℕ = λ k. entry s.assignment.now (F + result_at + k) in
     let first = c.block_first-last.ensures.0 ∙ ap (λ n. block_first (n - 1)) c.block_count.ensures.0 in
-    λ e k l. c.loop-k.invariant.1 k (omega arith) ∙ ap (λ F. entry c.args.self.now.assignment.now (F + result_at + k)) first
+    λ e k l.
+    told _ _ _
+    (all_places 0 256 (λ k. f k ≡ g k) (λ k. f k ≡ g k → ⊥) _
+    (cases_from_all _ _ _ (λ k. f k ≡ g k) (λ k. f k ≡ g k → ⊥) c.all.ensures.ran (YieldsList-from_range 0 256 256 refl refl)
+    (λ x q k. search (rules, tests)) (λ x q k. search (rules, tests))))
+    e k (omega arith) (omega arith)
+    ∙ ap (λ F. entry s.assignment.now (F + result_at + k)) first
