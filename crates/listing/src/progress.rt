@@ -44,6 +44,7 @@ pub struct Chunk {
 }
 
 // What is to be printed for the bytes of standard input.
+#[tactic(auto, using(crate::proofs::Requests::begin_possible))]
 pub fn begin(front: Front, line: &[u8]) -> Progress
     ensures { (result ≡ Progress.Begun (request_of front line.now)) × Possible result }
 {

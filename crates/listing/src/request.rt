@@ -34,6 +34,7 @@ pub struct Rows {
 }
 
 // So many rows of a circuit from `first` on, or refusal 3 where there are not so many.
+#[tactic(auto, unfolding(crate::specs::Request::within))]
 fn within(circuit: Circuit, first: u64, many: u64) -> Result<Rows, LineRefusal>
     requires { Allowed circuit × (first < 1000000000) × (many < 1000000000) }
     ensures { result ≡ specs.within circuit first many }
@@ -50,6 +51,7 @@ fn within(circuit: Circuit, first: u64, many: u64) -> Result<Rows, LineRefusal>
 
 // What a line with a length asks for, or refusal 1, 2 or 3. This function and the next differ in the line, the test and the circuit: one for both
 // would take all three as closures, and be longer.
+#[tactic(auto, using(limits::proofs::limit::Tests::length_passed), unfolding(crate::specs::Request::checked))]
 fn record_request(line: &[u8]) -> Result<Rows, LineRefusal>
     ensures { result ≡ asked (parse_of line.now) }
 {
@@ -72,6 +74,7 @@ fn axle_request(line: &[u8]) -> Result<Rows, LineRefusal>
 }
 
 // What a line asks for.
+#[tactic(auto, unfolding(crate::specs::Request::request_of))]
 pub fn request_of(front: Front, line: &[u8]) -> Result<Rows, LineRefusal>
     ensures { result ≡ request_of front line.now }
 {

@@ -79,6 +79,7 @@ fn put_name(out: &mut [u8], at: usize, name: &str, stop: u8) -> usize
 }
 
 // A number that may be left out, and the byte after it.
+#[tactic(auto, using(text::proofs::Put::put_byte), unfolding(crate::specs::Steps::optional))]
 fn put_optional(out: &mut [u8], at: usize, x: Option<u64>, stop: u8) -> usize
     requires { at + 21 ≤ length out.old }
     ensures { Put out.old at (optional x stop) out.new result × (result ≤ at + 21) }

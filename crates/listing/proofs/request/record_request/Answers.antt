@@ -1,7 +1,7 @@
 -- A line that is read has numbers below 1,000,000,000; a length that our limit allows is that of a circuit that is allowed.
 use mathlib.Core.Path.{sym, ap, ◌∙◌}
 use Rattle.std.proofs.lemmas.Result.{err_from_is_err_and}
-use Rattle.limits.proofs.limit.Tests.{length_passed, length_range, length_refused}
+use Rattle.limits.proofs.limit.Tests.{length_range, length_refused}
 use Rattle.limits.specs.Limit.{our_limit}
 use Rattle.listing.specs.Request.{asked, checked, refused}
 use Rattle.listing.proofs.LineRight.{parse_right}
@@ -19,9 +19,3 @@ pub within-requires : goal.within-requires
 within-requires c =
     let right = (parse_right c.args.line.now _ _ _).0 (sym c.parse.ensures ∙ c.in_ok-parsed.ensures.ok_part) in
     (length_range our_limit _ (sym c.in_ok-ask_length.ensures), right.1, right.2)
-
-pub returns : goal.returns
-unfolding checked
-returns c =
-    let read = sym c.parse.ensures ∙ c.in_ok-parsed.ensures.ok_part in
-    c.within.ensures ∙ sym (ap asked read ∙ length_passed refused _ our_limit _ (sym c.in_ok-ask_length.ensures))
