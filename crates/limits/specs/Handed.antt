@@ -1,6 +1,7 @@
 -- A record as it is handed over: so many bits, packed into whole bytes (document 02, request 2).
-use Rattle.refusal.specs.Refusals.{Outcome}
-use Rattle.std.specs.Prelude.{cond, not, List, ◌≡◌, ℕ, eqb, length, Err}
+use Rattle.refusal.specs.declared.outcome.Refusal.{Refusal}
+use Rattle.refusal.specs.Refusals.{Outcome, done}
+use Rattle.std.specs.Prelude.{cond, not, List, ◌≡◌, ℕ, eqb, length, Err, Ok, Result}
 use Rattle.encoding.specs.Bytes.{Bytes}
 use Rattle.encoding.specs.Packed.{packed_length, spare_bits}
 use Rattle.limits.specs.Limit.{allowance, limited}
@@ -11,6 +12,11 @@ pub record IsRecord (n : ℕ) (r : List ℕ) : Type 0 where
   pub bytes : Bytes r
   pub size : length r ≡ packed_length n
   pub spare : spare_bits n r ≡ 0
+
+-- the answer of who asks for a record, whichever it is given
+abbrev pub outcome_of : {A : Type 0} → Result A Refusal → Outcome
+outcome_of (Ok r) = done
+outcome_of (Err r) = Err r
 
 -- what is asked of the bytes of a record of n bits, and then the answer `next`
 unfoldable pub record_bytes_answer : ℕ → List ℕ → Outcome → Outcome

@@ -4,3 +4,4 @@
 pub mod blocks;
 pub mod handed;
 pub mod limit;
+pub mod record;

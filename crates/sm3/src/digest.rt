@@ -24,16 +24,15 @@ fn put_digest(out: &mut [u8], s: State)
 }
 
 // The digest of a record of so many bits, and of no more blocks than the limit, into the first 32 bytes of `out`.
-#[tactic(auto, using(limits::proofs::handed::Asked::handed_stands, limits::proofs::handed::Asked::handed_passed, limits::proofs::handed::Asked::handed_range), unfolding(crate::specs::Message::digest_bytes))]
+#[tactic(auto, using(limits::proofs::handed::Asked::handed_stands, limits::proofs::handed::Asked::handed_passed), unfolding(crate::specs::Message::digest_bytes))]
 pub fn digest(limit: u64, bits: u64, bytes: &[u8], out: &mut [u8]) -> Result<(), Refusal>
     ensures value { result ≡ digest_answer limit bits bytes.now (length out.old) }
     ensures out_after { out.new ≡ digest_left result bits bytes.now out.old }
 {
-    ask_record(limit, bits, bytes)?;
+    let handed = ask_record(limit, bits, bytes)?;
     if out.len() < DIGEST_BYTES {
         return Err(Refusal::BufferTooShort);
     }
-    let s = hash(bits, bytes);
-    put_digest(out, s);
+    put_digest(out, hash(handed));
     Ok(())
 }

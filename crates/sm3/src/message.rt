@@ -14,6 +14,7 @@ use crate::constants::start_state;
 use crate::expansion::first_words;
 use crate::state::State;
 use limits::blocks::block_count;
+use limits::record::Record;
 
 // The bytes of the record from `at` on, at most 64, with zeros after them; zeros alone where the record ends before.
 fn tail(bytes: &[u8], at: usize) -> [u8; 64]
@@ -45,17 +46,17 @@ fn cut_byte(x: u8, used: u64) -> u8
 
 // Block i of the message, one that the record does not fill, up to the bit length: the end of the record, the bit 1, zeros.
 #[tactic(auto, unfolding(limits::specs::Blocks::blocks))]
-fn ended(bits: u64, bytes: &[u8], i: usize) -> [u8; 64]
-    requires { (bits ≤ most_bits) × (length bytes.now ≡ packed_length bits) × (i < blocks bits) × (bits < 512 * i + 512) }
-    ensures { result ≡ tab 64 (λ (k : ℕ). ended_byte bits bytes.now (64 * i + k)) }
+fn ended(handed: Record<'_>, i: usize) -> [u8; 64]
+    requires { (i < blocks handed.bits) × (handed.bits < 512 * i + 512) }
+    ensures { result ≡ tab 64 (λ (k : ℕ). ended_byte handed.entry.bits handed.entry.bytes.now (64 * i + k)) }
 {
     let at = 64 * i;
-    let mut b = tail(bytes, at);
-    if ((bits / 8) as usize) < at {
+    let mut b = tail(handed.bytes, at);
+    if ((handed.bits / 8) as usize) < at {
         return b;
     }
-    let end = end_place(bits, at);
-    b[end] = cut_byte(b[end], bits % 8);
+    let end = end_place(handed.bits, at);
+    b[end] = cut_byte(b[end], handed.bits % 8);
     b
 }
 
@@ -70,68 +71,67 @@ fn with_length(b: [u8; 64], bits: u64) -> [u8; 64]
 
 // Block i of the message, one that the record does not fill, as bytes, in the last block with the bit length.
 #[tactic(auto, unfolding(limits::specs::Blocks::blocks))]
-fn padded(bits: u64, bytes: &[u8], i: usize) -> [u8; 64]
-    requires { (bits ≤ most_bits) × (length bytes.now ≡ packed_length bits) × (i < blocks bits) × (bits < 512 * i + 512) }
-    ensures { (k : ℕ) → k < 512 → bit_of_bytes result k ≡ block_bits (message bits (bit_of_bytes bytes.now)) i k }
+fn padded(handed: Record<'_>, i: usize) -> [u8; 64]
+    requires { (i < blocks handed.bits) × (handed.bits < 512 * i + 512) }
+    ensures { (k : ℕ) → k < 512 → bit_of_bytes result k ≡ block_bits (message handed.entry.bits (bit_of_bytes handed.entry.bytes.now)) i k }
 {
-    let b = ended(bits, bytes, i);
-    if ((bits / 8) as usize) < 64 * i + 56 {
-        return with_length(b, bits);
+    let b = ended(handed, i);
+    if ((handed.bits / 8) as usize) < 64 * i + 56 {
+        return with_length(b, handed.bits);
     }
     b
 }
 
 // Block i of the message, as bytes: the record's own where it fills the block, else they are laid out in `room`.
 #[tactic(auto, unfolding(limits::specs::Blocks::blocks))]
-fn message_block<'a>(bits: u64, bytes: &'a [u8], i: usize, room: &'a mut [u8; 64]) -> &'a [u8; 64]
-    requires { (bits ≤ most_bits) × (length bytes.now ≡ packed_length bits) × (i < blocks bits) }
-    ensures { (k : ℕ) → k < 512 → bit_of_bytes result.now k ≡ block_bits (message bits (bit_of_bytes bytes.now)) i k }
+fn message_block<'a>(handed: Record<'a>, i: usize, room: &'a mut [u8; 64]) -> &'a [u8; 64]
+    requires { i < blocks handed.bits }
+    ensures { (k : ℕ) → k < 512 → bit_of_bytes result.now k ≡ block_bits (message handed.entry.bits (bit_of_bytes handed.entry.bytes.now)) i k }
 {
     let at = 64 * i;
-    if at + 64 <= (bits / 8) as usize {
-        return bytes[at..].first_chunk().unwrap();
+    if at + 64 <= (handed.bits / 8) as usize {
+        return handed.bytes[at..].first_chunk().unwrap();
     }
-    *room = padded(bits, bytes, i);
+    *room = padded(handed, i);
     room
 }
 
 // W0 to W15 of block i of the message, with room for the words after them.
 #[tactic(auto, using(crate::proofs::expansion::FirstWords::expansion_congruent))]
-pub fn message_words(bits: u64, bytes: &[u8], i: usize) -> [u32; 68]
-    requires { (bits ≤ most_bits) × (length bytes.now ≡ packed_length bits) × (i < blocks bits) }
-    ensures { (length result ≡ 68) × (take 16 result ≡ expansion (block_bits (message bits (bit_of_bytes bytes.now)) i) 16) }
+pub fn message_words(handed: Record<'_>, i: usize) -> [u32; 68]
+    requires { i < blocks handed.bits }
+    ensures { (length result ≡ 68) × (take 16 result ≡ expansion (block_bits (message handed.entry.bits (bit_of_bytes handed.entry.bytes.now)) i) 16) }
 {
     let mut room = [0u8; 64];
-    first_words(message_block(bits, bytes, i, &mut room), 16)
+    first_words(message_block(handed, i, &mut room), 16)
 }
 
 // What block i + 1 begins with, where block i begins with v.
 #[tactic(auto, using(crate::proofs::expansion::FirstWords::block_congruent))]
-fn next_state(v: State, bits: u64, bytes: &[u8], i: usize) -> State
-    requires { (bits ≤ most_bits) × (length bytes.now ≡ packed_length bits) × (i < blocks bits) }
-    ensures { result ≡ block (block_bits (message bits (bit_of_bytes bytes.now)) i) v }
+fn next_state(v: State, handed: Record<'_>, i: usize) -> State
+    requires { i < blocks handed.bits }
+    ensures { result ≡ block (block_bits (message handed.entry.bits (bit_of_bytes handed.entry.bytes.now)) i) v }
 {
     let mut room = [0u8; 64];
-    compress(v, message_block(bits, bytes, i, &mut room))
+    compress(v, message_block(handed, i, &mut room))
 }
 
 // The words held after the first k blocks of the message, in one pass over the record: what block k begins with.
-pub fn chaining_value(bits: u64, bytes: &[u8], k: usize) -> State
-    requires { (bits ≤ most_bits) × (length bytes.now ≡ packed_length bits) × (k ≤ blocks bits) }
-    ensures { result ≡ chaining_value (message bits (bit_of_bytes bytes.now)) k }
+pub fn chaining_value(handed: Record<'_>, k: usize) -> State
+    requires { k ≤ blocks handed.bits }
+    ensures { result ≡ chaining_value (message handed.entry.bits (bit_of_bytes handed.entry.bytes.now)) k }
 {
     let mut v = start_state();
     for i in 0..k {
-        v = next_state(v, bits, bytes, i);
+        v = next_state(v, handed, i);
     }
     v
 }
 
-// The digest of a record of so many bits, as words: what is held after all blocks.
+// The digest of a record, as words: what is held after all blocks.
 #[tactic(auto, unfolding(crate::specs::Message::digest_of))]
-pub fn hash(bits: u64, bytes: &[u8]) -> State
-    requires { (bits ≤ most_bits) × (length bytes.now ≡ packed_length bits) }
-    ensures { result ≡ digest_of bits (bit_of_bytes bytes.now) }
+pub fn hash(handed: Record<'_>) -> State
+    ensures { result ≡ digest_of handed.entry.bits (bit_of_bytes handed.entry.bytes.now) }
 {
-    chaining_value(bits, bytes, block_count(bits) as usize)
+    chaining_value(handed, block_count(handed.bits) as usize)
 }

@@ -54,6 +54,10 @@ module _ (n : ℕ) (bytes : List ℕ) where
       past _ (Err WrongRecordLength) _ done (equal_iff (length bytes) (packed_length n)) (λ e. omega arith)
       (past _ (Err BitAfterRecord) _ done (equal_iff (spare_bits n bytes) 0) (λ e. omega arith) Iff.rfl)
 
+  -- a record whose bytes are not refused has as many as its bits take
+  pub bytes_size : record_bytes_answer n bytes done ≡ done → length bytes ≡ packed_length n
+  bytes_size e = (bytes_done.0 e).0
+
   -- what holds of both refusals and of what follows holds of the answer
   pub bytes_holds : (P : Outcome → Type 0) → P (Err WrongRecordLength) → P (Err BitAfterRecord) → (next : Outcome) → P next
       → P (record_bytes_answer n bytes next)

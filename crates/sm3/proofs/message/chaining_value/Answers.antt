@@ -14,7 +14,7 @@ unfolding chaining_value
 loop-i-preserved c =
     let l = c.loop-i in
     let a = c.args in
-    let m = message a.bits (bit_of_bytes a.bytes.now) in (
+    let m = message a.handed.bits (bit_of_bytes a.handed.bytes.now) in (
       omega arith,
       c.next_state-v.ensures
           ∙ ap (block (block_bits m l.i)) l.invariant.1
@@ -26,4 +26,4 @@ returns c =
     let l = c.loop-i in
     let a = c.args in
     let all : l.i ≡ a.k = omega arith in
-    l.invariant.1 ∙ ap (chaining_value (message a.bits (bit_of_bytes a.bytes.now))) all
+    l.invariant.1 ∙ ap (chaining_value (message a.handed.bits (bit_of_bytes a.handed.bytes.now))) all

@@ -6,4 +6,4 @@ use Rattle.sm3.proofs.message.chaining_value.Given as goal
 
 abbrev pub invariant-loop-i : goal.invariant-loop-i
 invariant-loop-i l =
-    (l.i ≤ l.k) × (l.v ≡ chaining_value (message l.bits (bit_of_bytes l.bytes)) l.i)
+    (l.i ≤ l.k) × (l.v ≡ chaining_value (message l.handed.bits (bit_of_bytes l.handed.bytes.now)) l.i)
