@@ -3,7 +3,6 @@ ghost use Rattle.std.specs.Prelude.{◌≡◌, length};
 ghost use Rattle.axles.specs.Band.{in_band};
 
 use circuit::band::Band;
-use encoding::read::wide;
 use text::decimal::is_digit;
 
 // The bytes of a record that are the tens and the units of its axles.
@@ -22,8 +21,8 @@ pub fn in_band(band: Band, bytes: &[u8]) -> bool
     if !is_digit(bytes[UNITS]) {
         return false;
     }
-    let tens = wide(bytes[TENS]);
-    let units = wide(bytes[UNITS]);
+    let tens = u64::from(bytes[TENS]);
+    let units = u64::from(bytes[UNITS]);
     let axles = 10 * (tens - 48) + (units - 48);
     if axles < band.lower {
         return false;

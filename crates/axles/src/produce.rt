@@ -4,7 +4,7 @@ ghost use Rattle.assignment.specs.Wrote.{Wrote};
 ghost use Rattle.axles.specs.Band.{InBand};
 ghost use Rattle.axles.specs.Layout.{axle_wire_of, numbers};
 ghost use Rattle.axles.specs.Produce.{axles_produce_answer, axles_produce_left};
-ghost use Rattle.circuit.specs.Axles.{tens_left};
+ghost use Rattle.circuit.specs.Axles.{axle_bits, tens_left};
 ghost use Rattle.circuit.specs.Wires.{wire_count};
 ghost use Rattle.circuit.specs.declared.circuits.Circuit.TheVariants.{Axles};
 ghost use Rattle.encoding.specs.Bits.{bit_of_bytes};
@@ -15,9 +15,9 @@ use assignment::wires::put_entry;
 use circuit::axles::{ABOVE_LOWER, AXLE_BITS, BELOW_UPPER, TENS_LEFT, UNITS_LEFT};
 use circuit::band::Band;
 use circuit::wire::wire_count;
-use encoding::read::wide;
 use limits::handed::ask_record;
 use limits::limit::PARTNER_LIMIT;
+use limits::record::Record;
 use record::produce::put_assignment;
 use refusal::numbers::WireNumber;
 use refusal::outcome::Refusal;
@@ -45,13 +45,13 @@ fn put_numbers(out: &mut [u8], band: Band, tens: u64, units: u64)
 }
 
 // All wires of a record that lies in the band: its own, and the appended ones.
-fn put_axles(out: &mut [u8], band: Band, bytes: &[u8])
-    requires { (length bytes.now ≡ 63) × InBand band.lower band.upper bytes.now × (8 * wire_count (Axles band.lower band.upper) ≤ length out.old) }
-    ensures { Wrote 0 (wire_count (Axles band.lower band.upper)) (axle_wire_of band.lower band.upper (bit_of_bytes bytes.now)) out.old out.new }
+fn put_axles(out: &mut [u8], band: Band, handed: Record<'_>)
+    requires { (handed.bits ≡ axle_bits) × InBand band.lower band.upper handed.bytes.now × (8 * wire_count (Axles band.lower band.upper) ≤ length out.old) }
+    ensures { Wrote 0 (wire_count (Axles band.lower band.upper)) (axle_wire_of band.lower band.upper (bit_of_bytes handed.entry.bytes.now)) out.old out.new }
 {
-    put_assignment(out, AXLE_BITS, bytes);
-    let tens = wide(bytes[TENS]) - 48;
-    let units = wide(bytes[UNITS]) - 48;
+    put_assignment(out, handed);
+    let tens = u64::from(handed.bytes[TENS]) - 48;
+    let units = u64::from(handed.bytes[UNITS]) - 48;
     put_numbers(out, band, tens, units);
 }
 
@@ -61,7 +61,7 @@ pub fn produce(lower: u64, upper: u64, bytes: &[u8], out: &mut [u8]) -> Result<(
     ensures value { result ≡ axles_produce_answer lower upper bytes.now (length out.old) }
     ensures out_after { out.new ≡ axles_produce_left result lower upper bytes.now out.old }
 {
-    ask_record(PARTNER_LIMIT, AXLE_BITS, bytes)?;
+    let handed = ask_record(PARTNER_LIMIT, AXLE_BITS, bytes)?;
     let band = Band::new(lower, upper).ok_or(Refusal::BoundsOutOfRange)?;
     if !in_band(band, bytes) {
         return Err(Refusal::NotInBand);
@@ -70,6 +70,6 @@ pub fn produce(lower: u64, upper: u64, bytes: &[u8], out: &mut [u8]) -> Result<(
     if (out.len() as u64) < 8 * wires {
         return Err(Refusal::BufferTooShort);
     }
-    put_axles(out, band, bytes);
+    put_axles(out, band, handed);
     Ok(())
 }

@@ -2,7 +2,7 @@
 ghost use Rattle.std.specs.Prelude.{List, ◌≡◌, ℕ, ◌+◌, ◌*◌, ◌≤◌, length};
 ghost use Rattle.assignment.specs.Wrote.{Wrote};
 ghost use Rattle.circuit.specs.Wires.{first_block, frame_wires, wire_count};
-ghost use Rattle.circuit.specs.declared.circuits.Circuit.TheVariants.{Record};
+ghost use Rattle.circuit.specs.declared.circuits.Circuit.TheVariants as circuits;
 ghost use Rattle.encoding.specs.Bits.{bit_of_bytes};
 ghost use Rattle.encoding.specs.Packed.{packed_length};
 ghost use Rattle.limits.specs.Blocks.{most_bits};
@@ -15,6 +15,7 @@ use circuit::circuits::Circuit;
 use circuit::frame::{DIGEST, FIRST_BLOCK, START};
 use circuit::wire::wire_count;
 use limits::handed::ask_record;
+use limits::record::Record;
 use refusal::numbers::WireNumber;
 use refusal::outcome::Refusal;
 use sm3::constants::start_state;
@@ -31,11 +32,11 @@ pub fn put_frame(out: &mut [u8], digest: State)
 }
 
 // All wires of a record.
-pub fn put_assignment(out: &mut [u8], bits: u64, bytes: &[u8])
-    requires { (bits ≤ most_bits) × (length bytes.now ≡ packed_length bits) × (8 * wire_count (Record bits) ≤ length out.old) }
-    ensures { Wrote 0 (wire_count (Record bits)) (wire_of bits (bit_of_bytes bytes.now)) out.old out.new }
+pub fn put_assignment(out: &mut [u8], handed: Record<'_>)
+    requires { 8 * wire_count (circuits.Record handed.bits) ≤ length out.old }
+    ensures { Wrote 0 (wire_count (circuits.Record handed.entry.bits)) (wire_of handed.entry.bits (bit_of_bytes handed.entry.bytes.now)) out.old out.new }
 {
-    let digest = put_message(out, WireNumber(FIRST_BLOCK), bits, bytes);
+    let digest = put_message(out, WireNumber(FIRST_BLOCK), handed);
     put_frame(out, digest);
 }
 
@@ -45,11 +46,11 @@ pub fn produce(limit: u64, bits: u64, bytes: &[u8], out: &mut [u8]) -> Result<()
     ensures value { result ≡ produce_answer limit bits bytes.now (length out.old) }
     ensures out_after { out.new ≡ produce_left result bits bytes.now out.old }
 {
-    ask_record(limit, bits, bytes)?;
+    let handed = ask_record(limit, bits, bytes)?;
     let wires = wire_count(Circuit::Record { bits });
     if (out.len() as u64) < 8 * wires {
         return Err(Refusal::BufferTooShort);
     }
-    put_assignment(out, bits, bytes);
+    put_assignment(out, handed);
     Ok(())
 }

@@ -36,11 +36,11 @@ pub loop-i-preserved : goal.loop-i-preserved
 unfolding block_bits chaining_value
 loop-i-preserved c =
     let a = c.args in
-    let bytes = a.bytes.now in
-    let m = message_of a.bits bytes in
+    let bytes = a.handed.bytes.now in
+    let m = message_of a.handed.bits bytes in
     let i = c.loop-i.i in
     let put = c.put_block-v.ensures (block_bits m i)
-    (λ k below. message_lt a.bits (bit_of_bytes bytes) (λ k below. bit_of_bytes_lt bytes k) (512 * i + k))
+    (λ k below. message_lt a.handed.bits (bit_of_bytes bytes) (λ k below. bit_of_bytes_lt bytes k) (512 * i + k))
     c.message_words.ensures.1 in (
       omega arith,
       put.0 ∙ ap (block (block_bits m i)) c.loop-i.invariant.1 ∙ ap (chaining_value m) (sym (add-one i)),
@@ -56,8 +56,8 @@ unfolding digest_of message_wires
 returns c =
     let l = c.loop-i in
     let a = c.args in
-    let all : l.i ≡ blocks a.bits = omega arith in
+    let all : l.i ≡ blocks a.handed.bits = omega arith in
     record {
-      value = l.invariant.1 ∙ ap (chaining_value (message_of a.bits a.bytes.now)) all;
+      value = l.invariant.1 ∙ ap (chaining_value (message_of a.handed.bits a.handed.bytes.now)) all;
       wrote = rw all at l.invariant.2;
     }

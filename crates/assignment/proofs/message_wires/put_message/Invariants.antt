@@ -17,4 +17,4 @@ wires m = grid wires_per_block (λ i. block_wires (block_bits m i) (chaining_val
 
 abbrev pub invariant-loop-i : goal.invariant-loop-i
 invariant-loop-i l =
-    (l.i ≤ l.n) × (l.v ≡ chaining_value (message_of l.bits l.bytes) l.i) × Wrote l.first.0 (wires_per_block * l.i) (wires (message_of l.bits l.bytes)) l.initial.out l.out
+    (l.i ≤ l.n) × (l.v ≡ chaining_value (message_of l.handed.bits l.handed.bytes.now) l.i) × Wrote l.first.0 (wires_per_block * l.i) (wires (message_of l.handed.bits l.handed.bytes.now)) l.initial.out l.out

@@ -17,17 +17,17 @@ returns-then-not-is_digit-2 c =
 
 pub overflow_sub-axles : goal.overflow_sub-axles
 overflow_sub-axles c =
-    omega (arith, (digit_iff _).0 (sym c.is_digit.ensures ∙ c.if-not-is_digit.false), c.wide-tens.ensures.0)
+    omega (arith, (digit_iff _).0 (sym c.is_digit.ensures ∙ c.if-not-is_digit.false), c.from-tens.ensures)
 
 pub overflow_mul-axles : goal.overflow_mul-axles
-overflow_mul-axles c = omega (arith, c.wide-tens.ensures)
+overflow_mul-axles c = omega (arith, c.from-tens.ensures)
 
 pub overflow_sub-axles-2 : goal.overflow_sub-axles-2
 overflow_sub-axles-2 c =
-    omega (arith, (digit_iff _).0 (sym c.is_digit-2.ensures ∙ c.if-not-is_digit-2.false), c.wide-units.ensures.0)
+    omega (arith, (digit_iff _).0 (sym c.is_digit-2.ensures ∙ c.if-not-is_digit-2.false), c.from-units.ensures)
 
 pub overflow_add-axles : goal.overflow_add-axles
-overflow_add-axles c = omega (arith, c.wide-units.ensures, c.wide-tens.ensures)
+overflow_add-axles c = omega (arith, c.from-units.ensures, c.from-tens.ensures)
 
 pub returns-then-axles-band : goal.returns-then-axles-band
 unfolding in_band
@@ -35,8 +35,8 @@ returns-then-axles-band c =
     rw (
       sym c.is_digit.ensures ∙ c.if-not-is_digit.false,
       sym c.is_digit-2.ensures ∙ c.if-not-is_digit-2.false,
-      ← c.wide-tens.ensures.0,
-      ← c.wide-units.ensures.0,
+      ← c.from-tens.ensures,
+      ← c.from-units.ensures,
       lt-leb _ _ c.if-axles-band.true,
     )
 
@@ -46,7 +46,7 @@ returns c =
     rw (
       sym c.is_digit.ensures ∙ c.if-not-is_digit.false,
       sym c.is_digit-2.ensures ∙ c.if-not-is_digit-2.false,
-      ← c.wide-tens.ensures.0,
-      ← c.wide-units.ensures.0,
+      ← c.from-tens.ensures,
+      ← c.from-units.ensures,
       le-leb _ _ c.if-axles-band.false,
     )

@@ -18,4 +18,4 @@ returns-clause-out_after c =
     let same : (b.lower ≡ a.lower) × (b.upper ≡ a.upper) = search rules in
     let fits : 8 * wire_count (Axles b.lower b.upper) ≤ length a.out.now =
     rw (← c.circuit.ensures.value) (omega (arith, c.if-out-wires.false, c.wire_count-wires.ensures.0)) in
-    rw (← same.0, ← same.1) (wrote_front fits c.put_axles.ensures)
+    rw (← same.0, ← same.1) (wrote_front fits (rw c.in_ok-handed.ensures.given.1 at c.put_axles.ensures))

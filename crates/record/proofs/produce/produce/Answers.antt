@@ -12,5 +12,6 @@ pub returns-clause-out_after : goal.returns-clause-out_after
 unfolding assignment_of
 returns-clause-out_after c =
     let a = c.args in
+    let given = c.in_ok-handed.ensures.given in
     let fits : 8 * wire_count (Record a.bits) ≤ length a.out.now = omega arith in
-    wrote_front fits c.put_assignment.ensures
+    wrote_front fits (rw (given.0, given.1) at c.put_assignment.ensures)

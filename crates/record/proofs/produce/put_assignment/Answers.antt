@@ -28,7 +28,7 @@ pub returns : goal.returns
 unfolding wire_count wire_of
 returns c =
     let a = c.args in
-    let n = a.bits in
-    subst (λ (s : State). Wrote 0 (wire_count (Record n)) (frame_wires s (message_wires (message n (bit_of_bytes a.bytes.now)))) a.out.now c.put_frame.new.out)
+    let n = a.handed.bits in
+    subst (λ (s : State). Wrote 0 (wire_count (Record n)) (frame_wires s (message_wires (message n (bit_of_bytes a.handed.bytes.now)))) a.out.now c.put_frame.new.out)
     c.put_message-digest.ensures.value
     (rw (add-zero (first_block + wires_per_block * blocks n)) (c.put_frame.ensures _ _ _ c.put_message-digest.ensures.wrote))
