@@ -83,7 +83,7 @@ fn try_handed(rt: &HostRuntime, bits: u64, bytes: &[u8], room: &mut [u8]) -> io:
     requires { length room.old ≡ 2887688 }
 {
     match ask_record(OUR_LIMIT, bits, bytes) {
-        Ok(()) => try_record(rt, bits, bytes, room),
+        Ok(_) => try_record(rt, bits, bytes, room),
         Err(refusal) => show(rt, bits, "handed", Err(refusal)),
     }
 }
