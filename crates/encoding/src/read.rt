@@ -3,13 +3,6 @@ ghost use Rattle.std.specs.Prelude.{◌≡◌, ℕ, ◌+◌, ◌*◌, ◌<◌, �
 ghost use Rattle.encoding.specs.Bits.{bit_of_bytes, number};
 ghost use Rattle.encoding.specs.Bytes.{from_least_first};
 
-// A byte as a wider number.
-pub fn wide(x: u8) -> u64
-    ensures { (result ≡ x) × (result < 256) }
-{
-    u64::from(x)
-}
-
 // The word that the 32 bits of the four bytes from `at` on write.
 pub fn word_at(bytes: &[u8], at: usize) -> u32
     requires { at + 4 ≤ length bytes.now }
