@@ -1,14 +1,11 @@
 -- Before turn j the array has the words before W(16+j), and their wires agree; what a turn computes is of the whole expansion.
-use Rattle.std.proofs.Common.{◌≡◌, ◌+◌, sym, ◌∙◌, arith, length-set, take_all, below_none, below_more}
+use Rattle.std.proofs.Common.{◌≡◌, ◌+◌, sym, ◌∙◌, arith, length-set, take_all, below_more}
 use Rattle.assignment.proofs.OneMore.{expanded-wires}
 use Rattle.block.specs.BlockWires.{expansion_wires}
 use Rattle.agreement.proofs.Agreeing.{agrees_as, agrees_rows}
 use Rattle.sm3.proofs.expansion.FirstWords.{store_expanded}
 use Rattle.sm3.specs.Sm3.{expansion}
 use Rattle.agreement.proofs.expansion.expanded_words_agree.Goals as goal
-
-pub loop-j-init : goal.loop-j-init
-loop-j-init c = (omega arith, c.requires.0, λ bits e. (e, below_none _))
 
 pub returns-then-not-values_agree : goal.returns-then-not-values_agree
 returns-then-not-values_agree c =

@@ -1,14 +1,7 @@
 -- The wires of the three words agree one after the other.
-use mathlib.Core.Bool.{false≢true}
 use Rattle.std.proofs.Common.{◌+◌, refl, arith}
 use Rattle.agreement.proofs.Agreeing.{agrees_then}
 use Rattle.agreement.proofs.expansion.values_agree.Goals as goal
-
-pub returns-then-not-word_agrees : goal.returns-then-not-word_agrees
-returns-then-not-word_agrees c = λ e. absurd (false≢true e)
-
-pub returns-then-not-word_agrees-2 : goal.returns-then-not-word_agrees-2
-returns-then-not-word_agrees-2 c = λ e. absurd (false≢true e)
 
 pub returns : goal.returns
 returns c =

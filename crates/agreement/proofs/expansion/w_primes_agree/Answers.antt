@@ -1,12 +1,9 @@
 -- Before turn j the wires of the first j w_primes agree.
-use Rattle.std.proofs.Common.{arith, below_none, below_more}
+use Rattle.std.proofs.Common.{arith, below_more}
 use Rattle.forms.specs.WordWires.{word_wires}
 use Rattle.agreement.proofs.Agreeing.{agrees_rows}
 use Rattle.sm3.specs.Sm3.{w_prime}
 use Rattle.agreement.proofs.expansion.w_primes_agree.Goals as goal
-
-pub loop-j-init : goal.loop-j-init
-loop-j-init c = (omega arith, below_none _)
 
 pub returns-then-not-word_agrees : goal.returns-then-not-word_agrees
 returns-then-not-word_agrees c =

@@ -1,28 +1,9 @@
 -- The values of the round agree one after the other.
-use mathlib.Core.Bool.{false≢true}
 use Rattle.std.proofs.Common.{◌+◌, refl, ap, arith}
 use Rattle.block.specs.BlockWires.{round_wires}
 use Rattle.forms.specs.WordWires.{word_wires}
 use Rattle.agreement.proofs.Agreeing.{agrees_as, agrees_then}
 use Rattle.agreement.proofs.rounds.round_agrees.Goals as goal
-
-pub returns-then-not-sum_agrees : goal.returns-then-not-sum_agrees
-returns-then-not-sum_agrees c = λ e. absurd (false≢true e)
-
-pub returns-then-not-word_agrees : goal.returns-then-not-word_agrees
-returns-then-not-word_agrees c = λ e. absurd (false≢true e)
-
-pub returns-then-not-word_agrees-2 : goal.returns-then-not-word_agrees-2
-returns-then-not-word_agrees-2 c = λ e. absurd (false≢true e)
-
-pub returns-then-not-word_agrees-3 : goal.returns-then-not-word_agrees-3
-returns-then-not-word_agrees-3 c = λ e. absurd (false≢true e)
-
-pub returns-then-not-sum_agrees-2 : goal.returns-then-not-sum_agrees-2
-returns-then-not-sum_agrees-2 c = λ e. absurd (false≢true e)
-
-pub returns-then-not-sum_agrees-3 : goal.returns-then-not-sum_agrees-3
-returns-then-not-sum_agrees-3 c = λ e. absurd (false≢true e)
 
 pub returns : goal.returns
 unfolding round_wires

@@ -10,9 +10,6 @@ pub loop-j-init : goal.loop-j-init
 unfolding rounds
 loop-j-init c = (omega arith, refl, below_none _)
 
-pub round_values-r-requires : goal.round_values-r-requires
-round_values-r-requires c = omega arith
-
 pub returns-then-not-round_agrees : goal.returns-then-not-round_agrees
 returns-then-not-round_agrees c =
     let a = c.args in

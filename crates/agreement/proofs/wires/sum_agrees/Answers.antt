@@ -1,16 +1,9 @@
 -- The word that the hash keeps of the sum, and after it the two bits of what passes 2^32, agree one after the other.
-use mathlib.Core.Bool.{false≢true}
 use Rattle.std.proofs.Common.{◌+◌, sym, refl, ap, ◌∙◌, arith, eqb-true}
 use Rattle.assignment.proofs.HashSums.{higher_carry, lower_carry}
 use Rattle.forms.specs.WordWires.{carry_wires, sum_wires, word_wires}
 use Rattle.agreement.proofs.Agreeing.{agrees_as, agrees_next, agrees_none, agrees_then}
 use Rattle.agreement.proofs.wires.sum_agrees.Goals as goal
-
-pub returns-then-not-word_agrees : goal.returns-then-not-word_agrees
-returns-then-not-word_agrees c = λ e. absurd (false≢true e)
-
-pub returns-then-read-sum : goal.returns-then-read-sum
-returns-then-read-sum c = λ e. absurd (false≢true e)
 
 pub returns : goal.returns
 unfolding sum_wires

@@ -1,12 +1,8 @@
 -- The bits that write a word are its wires.
-use mathlib.Core.Bool.{false≢true}
 use Rattle.std.proofs.Common.{ap, arith, eqb-true}
 use Rattle.forms.specs.WordWires.{word_wires}
 use Rattle.agreement.proofs.Agreeing.{agrees_as, bits_agree}
 use Rattle.agreement.proofs.wires.word_agrees.Goals as goal
-
-pub returns-then-s-gt1 : goal.returns-then-s-gt1
-returns-then-s-gt1 c = λ e. absurd (false≢true e)
 
 pub returns : goal.returns
 returns c =

@@ -1,8 +1,8 @@
 -- Before turn i none of the first i entries is above what was seen, and the number is what they write, where all entries are bits. Where
 -- nothing above 1 was seen they are.
-use Rattle.std.proofs.Common.{◌≡◌, refl, arith}
+use Rattle.std.proofs.Common.{refl, arith}
 use Rattle.assignment.proofs.EntriesBelow.{none_seen, one_seen}
-use Rattle.agreement.proofs.word_read.BitByBit.{next_bit, no_bit, seen_bits}
+use Rattle.agreement.proofs.word_read.BitByBit.{next_bit, no_bit}
 use Rattle.agreement.proofs.word_read.read_standing.Goals as goal
 
 pub loop-i-init : goal.loop-i-init
@@ -14,9 +14,3 @@ loop-i-preserved c = (
   one_seen c.read-n.ensures c.loop-i.invariant.1,
   next_bit c.loop-i-test.true c.read-n.ensures refl refl c.loop-i.invariant.2,
 )
-
-pub returns : goal.returns
-returns c =
-    let l = c.loop-i in
-    let all : l.i ≡ 32 = omega arith in
-    λ few. rw all at (l.invariant.2 (seen_bits few (rw all at l.invariant.1)))

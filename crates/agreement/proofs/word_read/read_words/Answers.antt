@@ -1,6 +1,5 @@
 -- Before turn j the first j words are read. A word whose entries are not bits decides the answer.
-use Rattle.std.proofs.Common.{◌≡◌, ℕ, ◌+◌, ◌*◌, ◌<◌, List, length, get_or, set, sym, ◌∙◌, subst, arith, length-set, get_or-set_other, get_or-set_same, below_none, below_more}
-use Rattle.std.proofs.lemmas.List.{length-replicate}
+use Rattle.std.proofs.Common.{ℕ, ◌+◌, ◌*◌, ◌<◌, List, length, get_or, set, sym, ◌∙◌, subst, arith, length-set, get_or-set_other, get_or-set_same, below_more}
 use Rattle.agreement.proofs.Agreeing.{bits_lt}
 use Rattle.agreement.specs.Agrees.{BitsOf, BitsOfWords}
 use Rattle.agreement.proofs.word_read.read_words.Goals as goal
@@ -16,9 +15,6 @@ one_more {w} {j} {x} {words} {bytes} room h e =
           (subst (λ y. BitsOf (w + 32 * j) 32 y bytes) (sym (get_or-set_same words j x 0 room)) e);
     }
 
-pub loop-j-init : goal.loop-j-init
-loop-j-init g c = (omega arith, length-replicate _ _, record { each = below_none _ })
-
 pub overflow_cast-word : goal.overflow_cast-word
 overflow_cast-word g c = omega (arith, bits_lt (c.read_standing-s.ensures (omega (arith, c.if-s-gt1.false))))
 
@@ -29,11 +25,3 @@ loop-j-preserved g c =
       length-set l.word-items l.j _ ∙ l.invariant.1,
       one_more (omega (arith, l.invariant.1)) l.invariant.2 (c.read_standing-s.ensures (omega (arith, c.if-s-gt1.false))),
     )
-
-pub returns : goal.returns
-returns g c =
-    let l = c.loop-j in
-    let all : l.j ≡ g.row.N = omega arith in
-    λ words e.
-    let same : l.word-items ≡ words = cc in
-    subst (λ v. BitsOfWords c.args.w.0 g.row.N v c.args.assignment.now) same (rw all at l.invariant.2)
