@@ -47,21 +47,18 @@ pub fn add_term(sums: Sums, counts: Counts, t: usize, x: u64) -> Sums
     if t < counts.a {
         return Sums {
             a: sum(sums.a, x),
-            b: sums.b,
-            c: sums.c,
+            ..sums
         };
     }
     if t - counts.a < counts.b {
         return Sums {
-            a: sums.a,
             b: sum(sums.b, x),
-            c: sums.c,
+            ..sums
         };
     }
     Sums {
-        a: sums.a,
-        b: sums.b,
         c: sum(sums.c, x),
+        ..sums
     }
 }
 
