@@ -10,7 +10,7 @@ use refusal::numbers::WireNumber;
 use refusal::outcome::Refusal;
 
 // The lowest of the entries from `from` on and below `to` that is not below the limit, if there is one: they are asked in their order. A
-// `find` over the wires is no plainer: its closure needs a `requires` for the entry's place, and the edit of a later wire stands in the loop.
+// `find` over the wires is no plainer: its closure needs a `requires` for the entry's place, and its answer a proof beside it.
 fn lowest_asked(
     assignment: &[u8],
     from: WireNumber,
