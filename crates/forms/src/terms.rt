@@ -118,7 +118,7 @@ fn minus(k: u64, wire: WireNumber) -> Term
     times(P - k, wire)
 }
 
-// k put on, or taken off.
+// k put on, or taken off: `plus` is the definitions' own word for the side (`number_terms`), and an enum would be no plainer.
 fn with_sign(plus: bool, k: u64) -> u64
     requires { k ≤ p }
     ensures { result ≡ rows.with_sign plus k }
