@@ -5,6 +5,7 @@ ghost use Rattle.sm3.specs.Sm3.{w_prime, rotated_constant, round_of};
 
 use crate::sum::{Sum, add_3, add_4};
 use sm3::constants::rotated_constant;
+use sm3::expansion::mixed_word;
 use sm3::state::State;
 use sm3::words::{ff, gg, p0, p1, rotate_left};
 
@@ -33,7 +34,7 @@ pub fn expansion_values(x: &[u32; 68], j: usize) -> ExpansionValues
     requires { (16 ≤ j) × (j < 68) }
     ensures { IsExpansion result x.now j }
 {
-    let q = x[j - 16] ^ x[j - 9] ^ rotate_left(x[j - 3], 15);
+    let q = mixed_word(x, j);
     let p = p1(q);
     ExpansionValues {
         q,

@@ -1,7 +1,6 @@
 // The constants of the rounds.
 ghost use Rattle.std.specs.Prelude.{◌≡◌, ◌<◌};
 ghost use Rattle.sm3.specs.Sm3.{start, rotated_constant, word_of};
-ghost use Rattle.encoding.specs.Sequence.{tab};
 
 use crate::state::State;
 
@@ -27,14 +26,6 @@ pub fn start_state() -> State
     ensures { result ≡ start }
 {
     State::from(START)
-}
-
-// T of all rounds, rotated: the table that is lent to every round.
-#[tactic(auto, using(crate::proofs::RotatedTable::table))]
-pub fn rotated_constants() -> [u32; 64]
-    ensures { result ≡ tab 64 rotated_constant }
-{
-    ROTATED
 }
 
 // Word k of those that block 0 begins with.

@@ -2,12 +2,10 @@
 -- take a block from round j to round j + 1, whichever round it is.
 use Rattle.std.proofs.Common.{◌≡◌, ℕ, ◌+◌, ◌<◌, List, length, get_or, take, set, sym, refl, ap, ◌∙◌, add-one, arith, get_or-take}
 use Rattle.sm3.specs.Reached.{Reached}
-use Rattle.sm3.specs.Sm3.{◌⊕◌, expansion, next_word, w_prime, round_of, rounds, rotated_constant}
+use Rattle.sm3.specs.Sm3.{◌⊕◌, expansion, next_word, w_prime, round_of, rounds}
 use Rattle.sm3.specs.declared.state.State.{State}
 use Rattle.sm3.proofs.expansion.FirstWords.{Holds, W, W-next, get_or-expansion, store_W}
-use Rattle.encoding.proofs.Tab.{get_or-tab}
 use Rattle.encoding.specs.Bits.{bit_of_bytes}
-use Rattle.encoding.specs.Sequence.{tab}
 
 -- with the first four words a block stands before round 0
 pub reached_first : (bytes w : List ℕ) (v : State) → length w ≡ 68 → take 4 w ≡ expansion (bit_of_bytes bytes) 4
@@ -19,10 +17,6 @@ reached_first bytes w v l first = record { room = l; words = first; state = refl
 pub rounds-next : (w : List ℕ) (v : State) (j : ℕ) → rounds w v (j + 1) ≡ round_of j (get_or w j 0) (w_prime w j) (rounds w v j)
 unfolding rounds
 rounds-next w v j = rw add-one
-
--- T of round j in the table
-pub table_at : (t : List ℕ) (j : ℕ) → j < 64 → t ≡ tab 64 rotated_constant → get_or t j 0 ≡ rotated_constant j
-table_at t j h e = ap (λ (l : List ℕ). get_or l j 0) e ∙ get_or-tab 64 rotated_constant j 0 h
 
 -- a word of an array that has the first m words of an expansion
 get_or-first : (bits : ℕ → ℕ) (w : List ℕ) (m j : ℕ) → j < m → take m w ≡ expansion bits m → get_or w j 0 ≡ W bits j
