@@ -63,7 +63,7 @@ pub fn produce(lower: u64, upper: u64, bytes: &[u8], out: &mut [u8]) -> Result<(
 {
     let handed = ask_record(PARTNER_LIMIT, AXLE_BITS, bytes)?;
     let band = Band::new(lower, upper).ok_or(Refusal::BoundsOutOfRange)?;
-    if !in_band(band, bytes) {
+    if !in_band(band.lower, band.upper, bytes) {
         return Err(Refusal::NotInBand);
     }
     let wires = wire_count(band.circuit());

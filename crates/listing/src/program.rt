@@ -6,13 +6,8 @@ use console::{print, read_input};
 use forms::terms::RowTerms;
 use std::io;
 
-// Prints what a line asks for, chunk after chunk.
-pub fn print_listing(
-    rt: &HostRuntime,
-    listing: Listing,
-    front: Front,
-    line: &[u8],
-) -> io::Result<()> {
+// Prints what a line asks for, chunk after chunk, up to the first write that fails.
+fn print_chunks(rt: &HostRuntime, listing: Listing, front: Front, line: &[u8]) -> io::Result<()> {
     let mut out = [0u8; 65536];
     let mut terms = RowTerms::new();
     let mut progress = Some(begin(front, line));
@@ -24,10 +19,16 @@ pub fn print_listing(
     Ok(())
 }
 
+// Prints what a line asks for. What fails has been said on standard error, and nothing is left to do.
+pub fn print_listing(rt: &HostRuntime, listing: Listing, front: Front, line: &[u8]) {
+    let _ = print_chunks(rt, listing, front, line);
+}
+
 // Prints what the line on standard input asks for.
-pub fn run(rt: &HostRuntime, listing: Listing, front: Front) -> io::Result<()> {
+pub fn run(rt: &HostRuntime, listing: Listing, front: Front) {
     // A line that is not refused has at most 40 bytes, so a buffer of 41 or more is enough to tell.
     let mut space = [0u8; 48];
-    let n = read_input(rt, &mut space)?;
-    print_listing(rt, listing, front, &space[..n])
+    if let Ok(n) = read_input(rt, &mut space) {
+        print_listing(rt, listing, front, &space[..n]);
+    }
 }

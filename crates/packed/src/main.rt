@@ -4,6 +4,5 @@
 use claim::program::run;
 
 fn main(rt: HostRuntime) {
-    // What fails has been said on standard error.
-    let _ = run(&rt);
+    run(&rt);
 }

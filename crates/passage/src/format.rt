@@ -2,7 +2,7 @@
 ghost use Rattle.std.specs.Prelude.{◌≡◌};
 ghost use Rattle.passage.specs.Format.{allows, is_plate_byte};
 
-use text::decimal::is_digit;
+use text::decimal::{is_digit, is_digit_or};
 use text::hex::is_hex_digit;
 
 // The kinds of places. They are an enum, and no tests that are handed over, since the definitions tell them apart (`kind_at`).
@@ -23,11 +23,11 @@ pub enum Kind {
 }
 
 // Whether c is a letter or a digit of a plate.
-#[tactic(auto, unfolding(crate::specs::Format::is_plate_byte, text::specs::Decimal::is_digit_or, text::specs::Decimal::is_digit))]
+#[tactic(auto, unfolding(crate::specs::Format::is_plate_byte))]
 fn is_plate_byte(c: u8) -> bool
     ensures { result ≡ is_plate_byte c }
 {
-    matches!(c, b'A'..=b'Z' | b'0'..=b'9')
+    is_digit_or(b'A', b'Z', c)
 }
 
 impl Kind {

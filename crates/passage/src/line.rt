@@ -47,8 +47,9 @@ fn ask_field(kind: Kind, line: &[u8], field: Field) -> Result<(), Refusal>
     )
 }
 
-// .. of the plate, the comma behind it or the blind.
+// .. of the plate, the comma behind it or the blind. Inlined by force: with a call, a wrong field takes `write` 37 ns, not 35.
 #[tactic(auto, using(crate::proofs::InParts::tail_parts, crate::proofs::PlaceKinds::first_run, crate::proofs::PlaceKinds::next_run, crate::proofs::PlaceKinds::comma_run, crate::proofs::PlaceKinds::blind_run))]
+#[inline(always)]
 pub fn ask_tail(line: &[u8]) -> Result<(), Refusal>
     requires { length line.now ≡ 63 }
     ensures { result ≡ asked (allowed_at line.now) 20 43 }

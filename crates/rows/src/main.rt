@@ -6,6 +6,5 @@ use listing::progress::Listing;
 use listing::request::Front;
 
 fn main(rt: HostRuntime) {
-    // What fails has been said on standard error.
-    let _ = run(&rt, Listing::Rows, Front::Length);
+    run(&rt, Listing::Rows, Front::Length);
 }

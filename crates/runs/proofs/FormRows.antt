@@ -1,4 +1,4 @@
--- The rows of a candidate's forms, told by its entries: each is satisfied where they are what its form makes them.
+-- The rows of forms, told by the entries of an assignment that are below the prime, with 1 on wire 0: each is satisfied where they are what its form makes them.
 use mathlib.Core.Path.{◌≡◌, subst, sym}
 use Prim.Native.Nat.{ℕ, ◌+◌, ◌-◌, ◌*◌, ◌/◌, ◌%◌, ◌<◌}
 use native.Mathlib.Omega.{arith}
@@ -10,16 +10,17 @@ use Rattle.forms.specs.Terms.{Fit}
 use Rattle.forms.specs.declared.form.Form.TheVariants.{Bit, Choice, Equal, Fixed, Majority, XorOfThree, XorOfTwo}
 use Rattle.forms.specs.declared.form.Form.{Form}
 use Rattle.refusal.specs.declared.numbers.WireNumber.{WireNumber}
-use Rattle.runs.specs.declared.candidate.Candidate.{Candidate}
+use Rattle.assignment.specs.Bounded.{BelowPrime}
+use mathlib.Core.List.{List}
 
-module _ (c : Candidate) where
+module _ (a : List ℕ) (one : entry a 0 ≡ 1) (below : BelowPrime a) where
   -- its entries
   abbrev at : ℕ → ℕ
-  at = entry c.assignment.now
+  at = entry a
 
   -- .. are below the prime, with 1 on wire 0
   pub judged : Judged at
-  judged = record { one = c.one; below = c.below.each }
+  judged = record { one = one; below = below.each }
 
   -- the row of a form that is told
   row_told : {f g : Form} → f ≡ g → Satisfied at (row_of g) → Satisfied at (row_of f)

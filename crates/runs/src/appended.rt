@@ -5,6 +5,7 @@ ghost use Rattle.circuit.specs.Circuits.{appended_rows, block_count};
 ghost use Rattle.circuit.specs.Places.{state_rows};
 ghost use Rattle.runs.specs.RowsHold.{RowsHold};
 
+use crate::by_form::form_holds;
 use crate::candidate::Candidate;
 use circuit::circuits::{appended_form, appended_rows};
 
@@ -15,7 +16,7 @@ impl Candidate<'_> {
     {
         let rows = appended_rows(self.circuit);
         for k in 0..rows {
-            if !self.form_holds(appended_form(self.circuit, k)) {
+            if !form_holds(self.assignment, appended_form(self.circuit, k)) {
                 return k;
             }
         }

@@ -6,6 +6,7 @@ ghost use Rattle.circuit.specs.Wires.{block_first};
 ghost use Rattle.agreement.specs.Agrees.{Bits};
 ghost use Rattle.runs.specs.MessageRows.{ContentHolds, Padded};
 
+use crate::by_form::form_holds;
 use crate::candidate::Candidate;
 use assignment::entry::read;
 use circuit::circuits::{content_form, content_is_free};
@@ -53,7 +54,7 @@ impl Candidate<'_> {
             return true;
         }
         for b in 0..content_bits(message.bits, 512 * (i - message.begin)) {
-            if !self.form_holds(content_form(self.circuit, i, b)) {
+            if !form_holds(self.assignment, content_form(self.circuit, i, b)) {
                 return false;
             }
         }

@@ -11,6 +11,7 @@ use circuit::place::row_count;
 use circuit::row::form_at;
 use forms::terms::{RowTerms, fill};
 use refusal::numbers::RowNumber;
+use runs::by_form::form_holds;
 use runs::candidate::Candidate;
 
 // The lowest row of a circuit that is not satisfied, if there is one: the rows outside, the terms of each row inside. Rows that hold by
@@ -31,7 +32,7 @@ pub fn lowest_unsatisfied(candidate: &Candidate) -> Option<RowNumber>
             continue 'rows;
         }
         let form = form_at(candidate.circuit, RowNumber(k));
-        if candidate.form_holds(form) {
+        if form_holds(candidate.assignment, form) {
             k += 1;
             continue 'rows;
         }

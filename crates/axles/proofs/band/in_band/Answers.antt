@@ -29,15 +29,15 @@ overflow_sub-axles-2 c =
 pub overflow_add-axles : goal.overflow_add-axles
 overflow_add-axles c = omega (arith, c.from-units.ensures, c.from-tens.ensures)
 
-pub returns-then-axles-band : goal.returns-then-axles-band
+pub returns-then-axles-lower : goal.returns-then-axles-lower
 unfolding in_band
-returns-then-axles-band c =
+returns-then-axles-lower c =
     rw (
       sym c.is_digit.ensures ∙ c.if-not-is_digit.false,
       sym c.is_digit-2.ensures ∙ c.if-not-is_digit-2.false,
       ← c.from-tens.ensures,
       ← c.from-units.ensures,
-      lt-leb _ _ c.if-axles-band.true,
+      lt-leb _ _ c.if-axles-lower.true,
     )
 
 pub returns : goal.returns
@@ -48,5 +48,5 @@ returns c =
       sym c.is_digit-2.ensures ∙ c.if-not-is_digit-2.false,
       ← c.from-tens.ensures,
       ← c.from-units.ensures,
-      le-leb _ _ c.if-axles-band.false,
+      le-leb _ _ c.if-axles-lower.false,
     )

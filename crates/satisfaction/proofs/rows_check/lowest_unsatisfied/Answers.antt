@@ -51,6 +51,8 @@ form_holds-requires c =
     let C = c.args.candidate.now.circuit in
     let form = c.form_at-form.ensures in
     let below = row_below c.rows.invariant c.if-k-end.false c.row_count-end.ensures.0 in (
+      c.args.candidate.now.one,
+      c.args.candidate.now.below,
       apart_reached (wire_count C) _ c.form_at-form.result c.args.candidate.now.whole
           (subst (Apart (wire_count C)) (sym form.0) (row_apart C c.args.candidate.now.allowed _ below)),
       form.1,

@@ -50,6 +50,8 @@ form_holds-requires c =
     let s = c.args.self.now in
     let C = s.circuit in
     let form = c.appended_form.ensures in (
+      s.one,
+      s.below,
       apart_reached (wire_count C) _ c.appended_form.result s.whole
           (subst (Apart (wire_count C)) (sym form.0)
           (appended_apart C s.allowed _ (omega (arith, c.loop-k-test.true, c.appended_rows-rows.ensures.0)))),

@@ -44,7 +44,7 @@ returns-then-content_is_free c =
       each =
           λ b l inside.
           same_row _ (sym (c.content_is_free.ensures c.if-content_is_free.true b))
-          ((bit-row _ (judged c.args.self.now) _).1 (given.3.each b l));
+          ((bit-row _ (judged c.args.self.now.assignment.now c.args.self.now.one c.args.self.now.below) _).1 (given.3.each b l));
     }
 
 pub overflow_sub-i : goal.overflow_sub-i
@@ -68,6 +68,8 @@ form_holds-requires c =
     let C = c.args.self.now.circuit in
     let at = in_content C c.args.i given.1 c.content_bits-b-end.ensures _ c.loop-b-test.true in
     let form = c.content_form.ensures in (
+      c.args.self.now.one,
+      c.args.self.now.below,
       apart_reached (wire_count C) _ c.content_form.result c.args.self.now.whole
           (subst (Apart (wire_count C)) (sym form.0) (content_apart C c.args.self.now.allowed c.args.i _ given.0 at.0 at.1)),
       form.1,

@@ -5,7 +5,7 @@ use lib.ListN.{length}
 use Rattle.listing.specs.Progress.{room}
 use Rattle.listing.proofs.AllPrinted.{falls}
 use Rattle.listing.proofs.Chunks.{room_bounds}
-use Rattle.listing.proofs.program.print_listing.Goals as goal
+use Rattle.listing.proofs.program.print_chunks.Goals as goal
 
 pub loop-progress-smaller : goal.loop-progress-smaller
 loop-progress-smaller c =

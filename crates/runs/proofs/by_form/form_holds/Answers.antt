@@ -2,7 +2,7 @@
 use Rattle.std.proofs.Common.{arith}
 use Rattle.std.proofs.lemmas.Grind.{common_steps}
 use Rattle.runs.proofs.FormRows.{choice_holds, majority_holds}
-use Rattle.runs.proofs.candidate.Candidate.form_holds.Goals as goal
+use Rattle.runs.proofs.by_form.form_holds.Goals as goal
 
 pub returns-in-Majority : goal.returns-in-Majority
 returns-in-Majority c = grind (arith, common_steps, majority_holds)

@@ -3,7 +3,7 @@ use mathlib.Core.Path.{◌≡◌}
 use lib.ListN.{length}
 use Rattle.listing.specs.Progress.{IfPossible}
 use Rattle.listing.proofs.AllPrinted.{left}
-use Rattle.listing.proofs.program.print_listing.Given as goal
+use Rattle.listing.proofs.program.print_chunks.Given as goal
 
 abbrev pub invariant-loop-progress : goal.invariant-loop-progress
 invariant-loop-progress l = IfPossible l.progress × (length l.out ≡ 65536)
