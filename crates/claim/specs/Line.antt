@@ -25,10 +25,11 @@ digest_at s at = bytes_of_hex 32 s at
 abbrev pub packed_from : List ℕ → ℕ → List ℕ
 packed_from s at = drop (at + 65) s
 
--- the length in bits, and the place behind its comma, where 64 digits and the line feed must stand
+-- what a line says that is read: a length in bits, and the place of the digest
 abbrev pub claim : ℕ → ℕ → Option Parsed
 claim l at = Some (record { bits = l; digest = at })
 
+-- the length in bits, and the place behind its comma, where 64 digits and the line feed must stand
 unfoldable pub parse_of : List ℕ → Option Parsed
 parse_of s =
     after None (field_of comma s) s λ l at _.
