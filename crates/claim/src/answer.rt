@@ -47,7 +47,7 @@ pub fn put_answer(out: &mut [u8], answer: Result<(), LineRefusal>) -> usize
     ensures { Put out.old 0 (printed answer) out.new result × (result ≤ 29) }
 {
     match answer {
-        Ok(()) => put_text(out, 0, "accepted\n"),
+        Ok(()) => put_text(out, 0, b"accepted\n"),
         Err(refusal) => put_refusal(out, refusal.number()),
     }
 }

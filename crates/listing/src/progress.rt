@@ -67,8 +67,8 @@ fn put_header(listing: Listing, out: &mut [u8]) -> usize
     ensures { Put out.old 0 (header listing) out.new result × (result ≤ 30) }
 {
     match listing {
-        Listing::Rows => put_text(out, 0, "row,part,wire,coefficient\n"),
-        Listing::Steps => put_text(out, 0, "row,block,step,index,bit,form\n"),
+        Listing::Rows => put_text(out, 0, b"row,part,wire,coefficient\n"),
+        Listing::Steps => put_text(out, 0, b"row,block,step,index,bit,form\n"),
     }
 }
 

@@ -73,7 +73,7 @@ fn put_name(out: &mut [u8], at: usize, name: &str, stop: u8) -> usize
     requires { at + length name.now + 1 ≤ length out.old }
     ensures { Put out.old at (name.now ++ (stop ∷ [])) out.new result × (result ≡ at + length name.now + 1) }
 {
-    let end = put_text(out, at, name);
+    let end = put_text(out, at, name.as_bytes());
     out[end] = stop;
     end + 1
 }

@@ -5,11 +5,11 @@ ghost use Rattle.text.specs.Put.{Put};
 
 // A text, from `at` on.
 #[tactic(auto, using(crate::proofs::Put::put_copied))]
-pub fn put_text(out: &mut [u8], at: usize, text: &str) -> usize
+pub fn put_text(out: &mut [u8], at: usize, text: &[u8]) -> usize
     requires { at + length text.now ≤ length out.old }
     ensures { Put out.old at text.now out.new result }
 {
     let end = at + text.len();
-    out[at..end].copy_from_slice(text.as_bytes());
+    out[at..end].copy_from_slice(text);
     end
 }

@@ -12,6 +12,6 @@ pub fn put_refusal(out: &mut [u8], number: u64) -> usize
     requires { 29 ≤ length out.old }
     ensures { Put out.old 0 (refused number) out.new result × (result ≤ 29) }
 {
-    let at = put_text(out, 0, "refused,");
+    let at = put_text(out, 0, b"refused,");
     put_field(out, at, number, b'\n')
 }
