@@ -29,51 +29,51 @@ fn block_of(p: Place) -> Option<u64>
 }
 
 // The name of a step.
-fn step_name(step: Step) -> &'static str
+fn step_name(step: Step) -> &'static [u8]
     ensures { (result.now ≡ step_name step) × (length result.now ≤ 8) }
 {
     match step {
-        Step::Start => "start",
-        Step::Message => "message",
-        Step::Q => "q",
-        Step::P1 => "p1",
-        Step::W => "w",
-        Step::WPrime => "wprime",
-        Step::U => "u",
-        Step::Ss2 => "ss2",
-        Step::Ff => "ff",
-        Step::Gg => "gg",
-        Step::Tt1 => "tt1",
-        Step::Tt2 => "tt2",
-        Step::P0 => "p0",
-        Step::Result => "result",
-        Step::Digest => "digest",
-        Step::Appended => "appended",
+        Step::Start => b"start",
+        Step::Message => b"message",
+        Step::Q => b"q",
+        Step::P1 => b"p1",
+        Step::W => b"w",
+        Step::WPrime => b"wprime",
+        Step::U => b"u",
+        Step::Ss2 => b"ss2",
+        Step::Ff => b"ff",
+        Step::Gg => b"gg",
+        Step::Tt1 => b"tt1",
+        Step::Tt2 => b"tt2",
+        Step::P0 => b"p0",
+        Step::Result => b"result",
+        Step::Digest => b"digest",
+        Step::Appended => b"appended",
     }
 }
 
 // The name of a form. A difference is called a sum.
-fn form_name(form: Form) -> &'static str
+fn form_name(form: Form) -> &'static [u8]
     ensures { (result.now ≡ form_name form) × (length result.now ≤ 12) }
 {
     match form {
-        Form::Fixed { .. } => "fixed",
-        Form::Bit { .. } => "bit",
-        Form::XorOfTwo { .. } => "xor of two",
-        Form::XorOfThree { .. } => "xor of three",
-        Form::Majority { .. } => "majority",
-        Form::Choice { .. } => "choice",
-        Form::Sum { .. } | Form::Difference { .. } => "sum",
-        Form::Equal { .. } => "equal",
+        Form::Fixed { .. } => b"fixed",
+        Form::Bit { .. } => b"bit",
+        Form::XorOfTwo { .. } => b"xor of two",
+        Form::XorOfThree { .. } => b"xor of three",
+        Form::Majority { .. } => b"majority",
+        Form::Choice { .. } => b"choice",
+        Form::Sum { .. } | Form::Difference { .. } => b"sum",
+        Form::Equal { .. } => b"equal",
     }
 }
 
 // A name, and the byte after it.
-fn put_name(out: &mut [u8], at: usize, name: &str, stop: u8) -> usize
+fn put_name(out: &mut [u8], at: usize, name: &[u8], stop: u8) -> usize
     requires { at + length name.now + 1 ≤ length out.old }
     ensures { Put out.old at (name.now ++ (stop ∷ [])) out.new result × (result ≡ at + length name.now + 1) }
 {
-    let end = put_text(out, at, name.as_bytes());
+    let end = put_text(out, at, name);
     out[end] = stop;
     end + 1
 }
