@@ -1,14 +1,14 @@
--- What a write leaves, place by place, where a list is the table of a function.
+-- What writes leave, place by place, where a list is the table of a function.
 use mathlib.Core.Bool.{cond}
 use mathlib.Core.Path.{◌≡◌, sym, ap, ◌∙◌}
-use Prim.Native.Nat.{ℕ, ◌<◌}
-use native.Mathlib.Decide.{ℕ_discrete}
+use Prim.Native.Nat.{ℕ, ◌+◌, ◌≤◌, ◌<◌}
+use native.Mathlib.Decide.{ℕ_discrete, dec_lt}
 use native.Mathlib.Omega.{arith}
-use borrow.Author.Tests.{eq-eqb, ne_eqb}
-use lib.Dec.{eqb}
+use borrow.Author.Tests.{eq-eqb, ne_eqb, lt-ltb, le-ltb}
+use lib.Dec.{eqb, ltb}
 use lib.ListN.{get_or, set, length-set}
 use lib.Seq.{get_or-set_same, get_or-set_other, ext_get_or}
-use Rattle.encoding.proofs.Tab.{get_or-tab, length-tab}
+use Rattle.encoding.proofs.Tab.{get_or-tab, length-tab, tab_congruent}
 use Rattle.encoding.specs.Sequence.{tab}
 
 module _ {A : Type 0} where
@@ -30,3 +30,28 @@ module _ {A : Type 0} where
           ∙ get_or-set_same (tab n f) i v v (omega (arith, length-tab n f))
           ∙ sym (simp (eq-eqb k i e))
       at k l (no e) = get_or-set_other (tab n f) i k v v e ∙ get_or-tab n f k v l ∙ sym (simp (ne_eqb k i e))
+
+-- f below k, and 0 from there on
+abbrev pub filled : (ℕ → ℕ) → ℕ → ℕ → ℕ
+filled f k j = cond (ltb j k) (f j) 0
+
+filled-one-more : (f : ℕ → ℕ) (k j : ℕ) → wrote (filled f k) k (f k) j ≡ filled f (k + 1) j
+filled-one-more f k j = by (ℕ_discrete j k) (dec_lt j k)
+  where
+    by : Dec (j ≡ k) → Dec (j < k) → wrote (filled f k) k (f k) j ≡ filled f (k + 1) j
+    by (yes e) d = simp (eq-eqb j k e, lt-ltb j (k + 1) (omega arith)) (ap f (sym e))
+    by (no e) (yes l) = simp (ne_eqb j k e, lt-ltb j k l, lt-ltb j (k + 1) (omega arith))
+    by (no e) (no l) = simp (ne_eqb j k e, le-ltb j k (omega arith), le-ltb j (k + 1) (omega arith))
+
+-- a loop that fills n zeros from the front
+pub set-filled : (n : ℕ) (f : ℕ → ℕ) (k : ℕ) → k < n → set (tab n (filled f k)) k (f k) ≡ tab n (filled f (k + 1))
+set-filled n f k h =
+    set-tab n (filled f k) k (f k) h ∙ tab_congruent n _ _ (λ j l. filled-one-more f k j)
+
+-- .. and its end, where f is 0 from k on
+pub filled_whole : (n : ℕ) (f : ℕ → ℕ) (k : ℕ) → ((j : ℕ) → k ≤ j → f j ≡ 0) → tab n (filled f k) ≡ tab n f
+filled_whole n f k rest = tab_congruent n _ _ (λ j l. by j (dec_lt j k))
+  where
+    by : (j : ℕ) → Dec (j < k) → filled f k j ≡ f j
+    by j (yes h) = simp (lt-ltb j k h)
+    by j (no h) = simp (le-ltb j k (omega arith)) (sym (rest j (omega arith)))

@@ -7,4 +7,5 @@ use Rattle.encoding.proofs.write.put_eight_bytes.Goals as goal
 pub returns : goal.returns
 returns c =
     let a = c.args in
-    part_written a.at 8 _ _ a.out.now (c.copy_from_slice.ensures.after ∙ c.to_le_bytes.ensures ∙ eight_bytes_lem a.x) (length-least_first 8 a.x) c.requires
+    let copied = rw c.to_le_bytes.ensures at c.copy_from_slice.ensures.after in
+    part_written a.at 8 _ _ a.out.now (copied ∙ eight_bytes_lem a.x) (length-least_first 8 a.x) c.requires

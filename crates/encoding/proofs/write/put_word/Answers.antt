@@ -7,4 +7,5 @@ use Rattle.encoding.proofs.write.put_word.Goals as goal
 pub returns : goal.returns
 returns c =
     let a = c.args in
-    part_written a.at 4 _ _ a.out.now (c.copy_from_slice.ensures.after ∙ c.to_be_bytes.ensures ∙ word_bytes a.w) (length-highest_first 4 a.w) c.requires
+    let copied = rw c.to_be_bytes.ensures at c.copy_from_slice.ensures.after in
+    part_written a.at 4 _ _ a.out.now (copied ∙ word_bytes a.w) (length-highest_first 4 a.w) c.requires
