@@ -30,7 +30,7 @@ pub fn p1(x: u32) -> u32
 
 // FF of the rounds from 16 on: at each place what two or three of the bits are.
 #[tactic(auto, using(crate::proofs::ShortWays::joined))]
-fn majority_of(x: u32, y: u32, z: u32) -> u32
+pub fn majority_of(x: u32, y: u32, z: u32) -> u32
     ensures { result ≡ majority x y z }
 {
     (x & y).wrapping_add((x ^ y) & z)
@@ -38,7 +38,7 @@ fn majority_of(x: u32, y: u32, z: u32) -> u32
 
 // GG of the rounds from 16 on: y where x is 1, else z.
 #[tactic(auto, using(crate::proofs::ShortWays::picked))]
-fn choice_of(x: u32, y: u32, z: u32) -> u32
+pub fn choice_of(x: u32, y: u32, z: u32) -> u32
     ensures { result ≡ choice x y z }
 {
     z ^ (x & (y ^ z))
