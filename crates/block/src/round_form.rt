@@ -1,6 +1,6 @@
 // The rows of round j. Each form names words of its own; how a row joins them is said once, in `forms::word_form`.
 ghost use Rattle.std.specs.Prelude.{◌≡◌, ◌^◌, ◌<◌};
-ghost use Rattle.block.specs.Bounds.{stands_before};
+ghost use Rattle.block.specs.Bounds.{BlockAt, stands_before};
 ghost use Rattle.block.specs.StepForms.{ff_form, gg_form, p0_form, ss2_form, tt1_form, tt2_form, u_form};
 ghost use Rattle.block.specs.Steps.{lines};
 ghost use Rattle.block.specs.declared.step.Step.TheVariants.{Gg};
@@ -12,6 +12,7 @@ ghost use Rattle.forms.specs.declared.form.Form.TheVariants.{Sum};
 
 use crate::placed::Block;
 use crate::wire;
+use crate::wire::round_first;
 use forms::form::{Addends, Form};
 use forms::position::rotated;
 use forms::word_form::{OfThree, choice, pair, permuted, sum_bit, xor_of_two};
@@ -38,6 +39,22 @@ fn sum_form<F: FnOnce() -> Addends>(addends: F, constant: u64, r: WireNumber, l:
         constant,
         r,
     }
+}
+
+// P0(TT2), of the block whose first wire is `first`.
+#[tactic(auto, unfolding(crate::specs::StepForms::p0_form))]
+pub fn p0_form(first: WireNumber, j: u64, l: u64) -> Form
+    requires { BlockAt first.0 × (j < 64) × (l < 64) }
+    ensures { (result ≡ p0_form first.0 j l) × Fit result }
+{
+    let u = round_first(first, j);
+    permuted(
+        WireNumber(u.0 + wire::TT2),
+        9,
+        17,
+        WireNumber(u.0 + wire::P0),
+        l,
+    )
 }
 
 impl Block {
@@ -133,19 +150,10 @@ impl Block {
         sum_form(addends, 0, WireNumber(u.0 + wire::TT2), l)
     }
 
-    // P0(TT2)
-    #[tactic(auto, unfolding(crate::specs::StepForms::p0_form))]
     pub fn p0_form(self, j: u64, l: u64) -> Form
         requires { (j < 64) × (l < 64) }
         ensures { (result ≡ p0_form self.first.0 j l) × Fit result }
     {
-        let u = self.round_first(j);
-        permuted(
-            WireNumber(u.0 + wire::TT2),
-            9,
-            17,
-            WireNumber(u.0 + wire::P0),
-            l,
-        )
+        p0_form(self.first, j, l)
     }
 }

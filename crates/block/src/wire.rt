@@ -1,6 +1,6 @@
-// Where the words of a block stand.
+// Where the words of a block stand: those that it makes, by its first wire alone, and A to H, also by where it begins.
 ghost use Rattle.std.specs.Prelude.{◌≡◌, ◌+◌, ◌<◌, ◌≤◌};
-ghost use Rattle.block.specs.Bounds.{stands_before};
+ghost use Rattle.block.specs.Bounds.{BlockAt, stands_before};
 ghost use Rattle.block.specs.StepForms.{ss1};
 ghost use Rattle.block.specs.Wires.{state_word, q_first, result_first, round_width, u_first, w_first, w_prime_first};
 ghost use Rattle.forms.specs.Bounds.{Small, Within};
@@ -44,66 +44,116 @@ pub const TT2: u64 = 164;
 
 pub const P0: u64 = 198;
 
+// The first wire of q, P1(q) and Wj.
+pub fn expansion_first(first: WireNumber, j: u64) -> WireNumber
+    requires { BlockAt first.0 × (16 ≤ j) × (j < 68) }
+    ensures { result.0 ≡ q_first first.0 j }
+{
+    WireNumber(first.0 + EXPANSION + EXPANSION_WIDTH * (j - 16))
+}
+
+// Wj.
+pub fn expanded_word(first: WireNumber, j: u64) -> WordPosition
+    requires { BlockAt first.0 × (j < 68) }
+    ensures { (result ≡ standing (w_first first.0 j)) × Within result }
+{
+    if j < 16 {
+        return word_from(WireNumber(first.0 + 32 * j));
+    }
+    let q = expansion_first(first, j);
+    word_from(WireNumber(q.0 + 64))
+}
+
+// W'j.
+pub fn w_prime_word(first: WireNumber, j: u64) -> WordPosition
+    requires { BlockAt first.0 × (j < 64) }
+    ensures { (result ≡ standing (w_prime_first first.0 j)) × Within result }
+{
+    word_from(WireNumber(first.0 + W_PRIMES + 32 * j))
+}
+
+// The first wire of round j, which is that of u.
+pub fn round_first(first: WireNumber, j: u64) -> WireNumber
+    requires { BlockAt first.0 × (j < 64) }
+    ensures { result.0 ≡ u_first first.0 j }
+{
+    WireNumber(first.0 + ROUNDS + ROUND_WIDTH * j)
+}
+
+// A word of round j, by its offset in the round.
+pub fn round_word(first: WireNumber, j: u64, offset: u64) -> WordPosition
+    requires { BlockAt first.0 × (j < 64) × (offset < round_width) }
+    ensures { (result ≡ standing (u_first first.0 j + offset)) × Within result }
+{
+    let u = round_first(first, j);
+    word_from(WireNumber(u.0 + offset))
+}
+
+// SS1 of round j, which is u<<<7.
+pub fn ss1_word(first: WireNumber, j: u64) -> WordPosition
+    requires { BlockAt first.0 × (j < 64) }
+    ensures { (result ≡ ss1 first.0 j) × Within result }
+{
+    rotated(7, word_from(round_first(first, j)))
+}
+
+// Word k of the block's result.
+pub fn result_word(first: WireNumber, k: u64) -> WordPosition
+    requires { BlockAt first.0 × (k < 8) }
+    ensures { (result ≡ standing (result_first first.0 k)) × Within result }
+{
+    word_from(WireNumber(first.0 + RESULT + 32 * k))
+}
+
+// The same words of a block that is known to stand where it may, and A to H, which may still be those that it began with.
 impl Block {
-    // The first wire of q, P1(q) and Wj.
     pub fn expansion_first(self, j: u64) -> WireNumber
         requires { (16 ≤ j) × (j < 68) }
         ensures { result.0 ≡ q_first self.first.0 j }
     {
-        WireNumber(self.first.0 + EXPANSION + EXPANSION_WIDTH * (j - 16))
+        expansion_first(self.first, j)
     }
 
-    // Wj.
     pub fn expanded_word(self, j: u64) -> WordPosition
         requires { j < 68 }
         ensures { (result ≡ standing (w_first self.first.0 j)) × Within result }
     {
-        if j < 16 {
-            return word_from(WireNumber(self.first.0 + 32 * j));
-        }
-        let q = self.expansion_first(j);
-        word_from(WireNumber(q.0 + 64))
+        expanded_word(self.first, j)
     }
 
-    // W'j.
     pub fn w_prime_word(self, j: u64) -> WordPosition
         requires { j < 64 }
         ensures { (result ≡ standing (w_prime_first self.first.0 j)) × Within result }
     {
-        word_from(WireNumber(self.first.0 + W_PRIMES + 32 * j))
+        w_prime_word(self.first, j)
     }
 
-    // The first wire of round j, which is that of u.
     pub fn round_first(self, j: u64) -> WireNumber
         requires { j < 64 }
         ensures { result.0 ≡ u_first self.first.0 j }
     {
-        WireNumber(self.first.0 + ROUNDS + ROUND_WIDTH * j)
+        round_first(self.first, j)
     }
 
-    // A word of round j, by its offset in the round.
     pub fn round_word(self, j: u64, offset: u64) -> WordPosition
         requires { (j < 64) × (offset < round_width) }
         ensures { (result ≡ standing (u_first self.first.0 j + offset)) × Within result }
     {
-        let u = self.round_first(j);
-        word_from(WireNumber(u.0 + offset))
+        round_word(self.first, j, offset)
     }
 
-    // SS1 of round j, which is u<<<7.
     pub fn ss1_word(self, j: u64) -> WordPosition
         requires { j < 64 }
         ensures { (result ≡ ss1 self.first.0 j) × Within result }
     {
-        rotated(7, word_from(self.round_first(j)))
+        ss1_word(self.first, j)
     }
 
-    // Word k of the block's result.
     pub fn result_word(self, k: u64) -> WordPosition
         requires { k < 8 }
         ensures { (result ≡ standing (result_first self.first.0 k)) × Within result }
     {
-        word_from(WireNumber(self.first.0 + RESULT + 32 * k))
+        result_word(self.first, k)
     }
 
     // The first wire of word k of A to H before round j. A to D move on by one place a round, and so do E to H: a word is either

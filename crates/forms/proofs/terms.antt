@@ -2,3 +2,4 @@ pub mod DifferenceTerms
 pub mod Indexed
 pub mod Pushed
 pub mod SumTerms
+pub mod WrittenTerms

@@ -5,6 +5,7 @@ pub mod coefficient;
 pub mod form;
 pub mod part;
 pub mod position;
+pub mod sort;
 pub mod term_bytes;
 pub mod terms;
 pub mod word_form;

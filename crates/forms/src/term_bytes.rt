@@ -32,7 +32,7 @@ fn put_term(out: &mut [u8], at: usize, term: Term)
 }
 
 // Writes terms, one behind the other, from `at` on.
-fn put_part(out: &mut [u8], at: usize, terms: &[Term])
+pub fn put_part(out: &mut [u8], at: usize, terms: &[Term])
     requires { (at + 12 * length terms.now ≤ length out.old) × All (λ t. t.residue < p) terms.now }
     ensures { Written at (terms_bytes terms.now) out.old out.new }
 {

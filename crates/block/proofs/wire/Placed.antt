@@ -139,8 +139,9 @@ module _ (F w : ℕ) where
       (four_placed _ _ _ (omega arith) (word_of_half (k / 4)) (half_moves (k / 4) (omega arith)) j (k % 4) (omega arith))
 
 -- a word is known by its first wire and its rotation
-word_known : (x : WordPosition) (t : ℕ) → x.rotation ≡ t → ◌≡◌ {A = WordPosition} (record { first = x.first; rotation = t }) x
-word_known x t e = λ i. record { first = x.first; rotation = sym e i }
+pub word_known : (x : WordPosition) (w t : ℕ) → w ≡ x.first.0 → x.rotation ≡ t
+    → ◌≡◌ {A = WordPosition} (record { first = record { 0 = w }; rotation = t }) x
+word_known x w t e f = λ i. record { first = record { 0 = e i }; rotation = sym f i }
 
 -- Word k of A to H before round j: where it begins, as long as it is one of those that the block began with, and later, and
 -- how it is rotated in the three cases.
@@ -152,13 +153,13 @@ module _ (F b j k : ℕ) (h : k < 8) where
   made_first = (word_placed F b j k h).later
 
   pub straight_word : k % 4 < 2 → standing (state_word (stands_before F b j) k).first.0 ≡ state_word (stands_before F b j) k
-  straight_word l = word_known _ 0 ((word_placed F b j k h).straight l)
+  straight_word l = word_known _ _ 0 refl ((word_placed F b j k h).straight l)
 
   pub early_word : j + 2 ≤ k % 4 → standing (state_word (stands_before F b j) k).first.0 ≡ state_word (stands_before F b j) k
-  early_word l = word_known _ 0 ((word_placed F b j k h).early l)
+  early_word l = word_known _ _ 0 refl ((word_placed F b j k h).early l)
 
   pub rotated_word : 2 ≤ k % 4 → k % 4 < j + 2
       → rotated_by (9 + 10 * (k / 4)) (standing (state_word (stands_before F b j) k).first.0) ≡ state_word (stands_before F b j) k
   rotated_word l m =
       let once : 9 + 10 * (k / 4) ≡ (0 + (9 + 10 * (k / 4))) % 32 = omega arith in
-      word_known _ _ ((word_placed F b j k h).rotated l m ∙ once)
+      word_known _ _ _ refl ((word_placed F b j k h).rotated l m ∙ once)

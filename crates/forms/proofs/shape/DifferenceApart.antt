@@ -6,7 +6,7 @@ use Rattle.forms.proofs.shape.All.{all_append, all_tab, pairwise_tab}
 use Rattle.forms.proofs.shape.Clear.{Clear}
 use Rattle.forms.proofs.shape.Rises.{Part}
 use Rattle.forms.proofs.shape.TermRuns.{Off, On, Run, constant-run, run-before, run_off, run_part}
-use Rattle.forms.proofs.terms.DifferenceTerms.{number-length, number_range, with_sign_below}
+use Rattle.forms.proofs.terms.DifferenceTerms.{number-length, number_range, with_sign_range}
 use Rattle.forms.specs.Positions.{one}
 use Rattle.forms.specs.Rows.{◌·◌, bound_value, digit_terms, is_lower, number_terms, tens_terms, with_sign}
 use Rattle.forms.specs.Shape.{All}
@@ -30,7 +30,7 @@ number-run plus k n w some small short =
     record {
       on = all_tab (On w.0 n) n _ (λ i h. omega arith);
       distinct = pairwise_tab _ n _ (λ i j h l. omega arith);
-      residues = all_tab (λ (t : Term). t.residue < p) n _ (λ i h. number_range plus k n w some small short i);
+      residues = all_tab (λ (t : Term). t.residue < p) n _ (λ i h. (number_range plus k n w some small short i).1);
     }
 
 module _ (m : ℕ) (d : Digits) (bound : Bound) (n : ℕ) (r : WireNumber) (h : ApartDifference m d bound n r.0) where
@@ -56,7 +56,7 @@ module _ (m : ℕ) (d : Digits) (bound : Bound) (n : ℕ) (r : WireNumber) (h : 
 
   rest_part : Part m rest
   rest_part =
-      run-before 0 1 constant (constant-run _ (with_sign_below (not above) (bound_value bound) h.least (omega (arith, h.most)))) m bits
+      run-before 0 1 constant (constant-run _ (with_sign_range (not above) (bound_value bound) h.least (omega (arith, h.most))).1) m bits
       (omega (arith, h.result)) (run_part r.0 n bits bits-run m h.result.1)
       (run_off r.0 n bits bits-run 0 1 (omega (arith, h.result)))
 
