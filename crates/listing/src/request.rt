@@ -4,7 +4,7 @@ ghost use Rattle.circuit.specs.Ranges.{Allowed};
 ghost use Rattle.listing.specs.AxleLine.{parse_axles_of};
 ghost use Rattle.listing.specs.Line.{parse_of};
 ghost use Rattle.listing.specs.Request as specs;
-ghost use Rattle.listing.specs.Request.{asked, asked_axles, request_of};
+ghost use Rattle.listing.specs.Request.{asked, asked_axles, request_number, request_of};
 
 use crate::axle_line::parse_axles;
 use crate::line::parse;
@@ -81,5 +81,15 @@ pub fn request_of(front: Front, line: &[u8]) -> Result<Rows, LineRefusal>
     match front {
         Front::Length => record_request(line),
         Front::Bounds => axle_request(line),
+    }
+}
+
+// The number of a refusal, 0 for none.
+pub fn refusal_number(request: Result<Rows, LineRefusal>) -> u64
+    ensures { result ≡ request_number request }
+{
+    match request {
+        Ok(_) => 0,
+        Err(refusal) => refusal.number(),
     }
 }
