@@ -21,7 +21,7 @@ ghost use Rattle.circuit.specs.GivenRow.{row_bytes};
 ghost use Rattle.limits.specs.Blocks.{most_bits};
 
 use circuit::given_row::ROW_BYTES;
-use console::say_unwritten;
+use console::put;
 use encoding::packed::packed_length;
 use encoding::read::{eight_bytes, four_bytes};
 use forms::terms::Counts;
@@ -30,7 +30,7 @@ use record::row::row;
 use refusal::numbers::RowNumber;
 use sample::counted;
 use sm3::digest::digest;
-use std::io;
+use std::fmt::{self, Display, Formatter};
 
 // The lengths in bits of the records whose byte k is k mod 251: those that OpenSSL hashes, and then the others.
 const LENGTHS: [u64; 17] = [
@@ -48,76 +48,87 @@ const ROWS: [(u64, u64); 6] = [
 ];
 
 // A digest as 64 hexadecimal digits and a line feed.
-fn print_digest(rt: &HostRuntime, digest: &[u8; 32]) -> io::Result<()> {
-    for byte in digest {
-        print!(rt; "{byte:02x}")?;
+#[derive(Clone, Copy)]
+struct DigestLine([u8; 32]);
+
+impl Display for DigestLine {
+    fn fmt<W: fmt::Write>(&self, f: &mut Formatter<W>) -> fmt::Result {
+        for byte in self.0 {
+            write!(f, "{byte:02x}")?;
+        }
+        writeln!(f)
     }
-    println!(rt)
 }
 
 // The digest of a record of so many bits, printed. No record here is refused.
-fn show(rt: &HostRuntime, bits: u64, bytes: &[u8]) -> io::Result<()> {
+fn show(rt: &HostRuntime, bits: u64, bytes: &[u8]) {
     let mut out = [0u8; 32];
     let _ = digest(OUR_LIMIT, bits, bytes, &mut out);
-    print_digest(rt, &out)
+    put(rt, DigestLine(out));
 }
 
 // The record of so many bits whose byte k is k mod 251.
-fn show_counted(rt: &HostRuntime, bits: u64) -> io::Result<()>
+fn show_counted(rt: &HostRuntime, bits: u64)
     requires { bits ≤ most_bits }
 {
     let bytes = counted(bits);
     let end = packed_length(bits) as usize;
-    show(rt, bits, &bytes[..end])
+    show(rt, bits, &bytes[..end]);
+}
+
+// A number in decimal, and a blank.
+fn print_number(rt: &HostRuntime, x: u64) {
+    put(rt, x);
+    put(rt, " ");
+}
+
+// A signed number in decimal, and a blank.
+fn print_signed(rt: &HostRuntime, x: i64) {
+    if x < 0 {
+        put(rt, "-");
+    }
+    print_number(rt, x.unsigned_abs());
 }
 
 // The wire and the coefficient, which is signed, of the term in twelve bytes from `at` on.
-fn print_term(rt: &HostRuntime, bytes: &[u8; ROW_BYTES], at: usize) -> io::Result<()>
+fn print_term(rt: &HostRuntime, bytes: &[u8; ROW_BYTES], at: usize)
     requires { at + 12 ≤ row_bytes }
 {
-    let wire = four_bytes(bytes, at);
-    let coefficient = eight_bytes(bytes, at + 4).cast_signed();
-    print!(rt; "{wire} {coefficient} ")
+    print_number(rt, four_bytes(bytes, at));
+    print_signed(rt, eight_bytes(bytes, at + 4).cast_signed());
 }
 
 // The counts of a row and its first three terms.
-fn print_row(rt: &HostRuntime, n: Counts, bytes: &[u8; ROW_BYTES]) -> io::Result<()> {
-    print!(rt; "0 {} {} {} ", n.a, n.b, n.c)?;
-    for i in 0..3 {
-        print_term(rt, bytes, 12 * i)?;
+fn print_row(rt: &HostRuntime, n: Counts, bytes: &[u8; ROW_BYTES]) {
+    for count in [0, n.a, n.b, n.c] {
+        print_number(rt, count as u64);
     }
-    Ok(())
+    for i in 0..3 {
+        print_term(rt, bytes, 12 * i);
+    }
 }
 
 // The row of a number for a record of so many bits: the refusal's number, or 0, the counts and three terms.
-fn show_row(rt: &HostRuntime, bits: u64, number: u64) -> io::Result<()> {
+fn show_row(rt: &HostRuntime, bits: u64, number: u64) {
     let mut out = [0u8; ROW_BYTES];
     match row(OUR_LIMIT, bits, RowNumber(number), &mut out) {
-        Ok(n) => print_row(rt, n, &out)?,
-        Err(refusal) => print!(rt; "{} ", refusal.number())?,
+        Ok(n) => print_row(rt, n, &out),
+        Err(refusal) => print_number(rt, refusal.number()),
     }
-    println!(rt)
-}
-
-// All of the figures.
-fn show_all(rt: &HostRuntime) -> io::Result<()> {
-    show(rt, 24, b"abc")?;
-    show(
-        rt,
-        512,
-        b"abcdabcdabcdabcdabcdabcdabcdabcdabcdabcdabcdabcdabcdabcdabcdabcd",
-    )?;
-    for bits in LENGTHS {
-        show_counted(rt, bits)?;
-    }
-    for (bits, number) in ROWS {
-        show_row(rt, bits, number)?;
-    }
-    Ok(())
+    put(rt, "\n");
 }
 
 fn main(rt: HostRuntime) {
-    if show_all(&rt).is_err() {
-        say_unwritten(&rt);
+    show(&rt, 24, b"abc");
+    show(
+        &rt,
+        512,
+        b"abcdabcdabcdabcdabcdabcdabcdabcdabcdabcdabcdabcdabcdabcdabcdabcd",
+    );
+    for bits in LENGTHS {
+        show_counted(&rt, bits);
+    }
+    for (bits, number) in ROWS {
+        show_row(&rt, bits, number);
     }
 }

@@ -15,7 +15,6 @@ use limits::blocks::{MOST_BITS, block_count};
 use limits::limit::OUR_LIMIT;
 use record::check::check;
 use refusal::numbers::WireNumber;
-use std::io;
 
 // What assignments are held against: a record's length in bits and a digest.
 #[derive(Clone, Copy)]
@@ -28,32 +27,31 @@ pub struct Claim<'a> {
 
 impl Claim<'_> {
     // The check of an assignment, by what was done to it.
-    fn show(&self, what: &str, assignment: &[u8]) -> io::Result<()> {
+    fn show(&self, what: &str, assignment: &[u8]) {
         show(
             self.rt,
             self.bits,
             what,
             check(OUR_LIMIT, self.bits, &self.digest, assignment),
-        )
+        );
     }
 
     // The check of an assignment with the entry of wire w set to v. The entry is then as it was.
-    fn disturb(&self, what: &str, assignment: &mut [u8], w: WireNumber, v: u64) -> io::Result<()>
+    fn disturb(&self, what: &str, assignment: &mut [u8], w: WireNumber, v: u64)
         requires { 8 * (w.0 + 1) ≤ length assignment.old }
     {
         let held = read(assignment, w);
         put_entry(assignment, w, v);
-        let shown = self.show(what, assignment);
+        self.show(what, assignment);
         put_entry(assignment, w, held);
-        shown
     }
 
     // The same with the entry of wire w changed from 0 to 1, or from 1 to 0.
-    fn change(&self, what: &str, assignment: &mut [u8], w: WireNumber) -> io::Result<()>
+    fn change(&self, what: &str, assignment: &mut [u8], w: WireNumber)
         requires { 8 * (w.0 + 1) ≤ length assignment.old }
     {
         let v = 1 - read(assignment, w) % 2;
-        self.disturb(what, assignment, w, v)
+        self.disturb(what, assignment, w, v);
     }
 
     // The wire of bit k of the record's message: a bit of the record, or the first of its padding.
@@ -75,45 +73,45 @@ impl Claim<'_> {
     }
 
     // Wires before the blocks: wire 0, the first of the digest and the first of the start words.
-    fn change_frame(&self, assignment: &mut [u8]) -> io::Result<()>
+    fn change_frame(&self, assignment: &mut [u8])
         requires { 8 * first_block ≤ length assignment.old }
     {
-        self.change("one", assignment, WireNumber(0))?;
-        self.change("digest", assignment, WireNumber(DIGEST))?;
-        self.change("start", assignment, WireNumber(START))
+        self.change("one", assignment, WireNumber(0));
+        self.change("digest", assignment, WireNumber(DIGEST));
+        self.change("start", assignment, WireNumber(START));
     }
 
     // Wires of the message: the padding's first bit, and the record's last where it has one.
-    fn change_message(&self, assignment: &mut [u8]) -> io::Result<()>
+    fn change_message(&self, assignment: &mut [u8])
         requires { length assignment.old ≡ 8 * wire_count (Record self.now.bits) }
     {
         let padding = self.message_wire(self.bits);
-        self.change("padding", assignment, padding)?;
+        self.change("padding", assignment, padding);
         if self.bits == 0 {
-            return Ok(());
+            return;
         }
         let record = self.message_wire(self.bits - 1);
-        self.change("record", assignment, record)
+        self.change("record", assignment, record);
     }
 
     // Wires of the last block: a carry of its last round, which is changed, and then becomes 2, the greatest number below the prime,
     // the prime, and the greatest number that an entry has room for; and the last wire of its result.
-    fn change_last_block(&self, assignment: &mut [u8]) -> io::Result<()>
+    fn change_last_block(&self, assignment: &mut [u8])
         requires { length assignment.old ≡ 8 * wire_count (Record self.now.bits) }
     {
         let last = self.last_block();
         let carry = WireNumber(last.0 + ROUNDS + ROUND_WIDTH * 63 + TT2 + 33);
-        self.change("carry", assignment, carry)?;
-        self.disturb("two", assignment, carry, 2)?;
-        self.disturb("below", assignment, carry, P - 1)?;
-        self.disturb("prime", assignment, carry, P)?;
-        self.disturb("largest", assignment, carry, u64::MAX)?;
+        self.change("carry", assignment, carry);
+        self.disturb("two", assignment, carry, 2);
+        self.disturb("below", assignment, carry, P - 1);
+        self.disturb("prime", assignment, carry, P);
+        self.disturb("largest", assignment, carry, u64::MAX);
         let result = WireNumber(last.0 + BLOCK_WIRES - 1);
-        self.change("result", assignment, result)
+        self.change("result", assignment, result);
     }
 
     // Another digest held against the assignment, as it is and with the digest's first wire changed too.
-    fn change_digest(&self, assignment: &mut [u8]) -> io::Result<()>
+    fn change_digest(&self, assignment: &mut [u8])
         requires { 8 * first_block ≤ length assignment.old }
     {
         let mut digest = self.digest;
@@ -123,33 +121,33 @@ impl Claim<'_> {
             bits: self.bits,
             digest,
         };
-        other.show("other", assignment)?;
-        other.change("both", assignment, WireNumber(DIGEST))
+        other.show("other", assignment);
+        other.change("both", assignment, WireNumber(DIGEST));
     }
 
     // A length that is too long, and a digest and an assignment that lack a byte.
-    fn change_lengths(&self, assignment: &[u8]) -> io::Result<()>
+    fn change_lengths(&self, assignment: &[u8])
         requires { 1 ≤ length assignment.now }
     {
         let digest = &self.digest;
         let long = check(OUR_LIMIT, MOST_BITS + 1, digest, assignment);
-        show(self.rt, self.bits, "length", long)?;
+        show(self.rt, self.bits, "length", long);
         let digest31 = check(OUR_LIMIT, self.bits, &digest[..31], assignment);
-        show(self.rt, self.bits, "digest31", digest31)?;
-        self.show("short", &assignment[..assignment.len() - 1])
+        show(self.rt, self.bits, "digest31", digest31);
+        self.show("short", &assignment[..assignment.len() - 1]);
     }
 
     // Every change to an assignment that is accepted, and the check after each.
-    pub fn change_all(&self, assignment: &mut [u8]) -> io::Result<()>
+    pub fn change_all(&self, assignment: &mut [u8])
         requires { (length assignment.old ≡ 8 * wire_count (Record self.now.bits)) × (8 * first_block ≤ length assignment.old) }
     {
-        self.change_frame(assignment)?;
-        self.change_message(assignment)?;
-        self.change_last_block(assignment)?;
-        self.change_digest(assignment)?;
-        self.change_lengths(assignment)?;
+        self.change_frame(assignment);
+        self.change_message(assignment);
+        self.change_last_block(assignment);
+        self.change_digest(assignment);
+        self.change_lengths(assignment);
         add_p(assignment);
-        self.show("plus_p", assignment)
+        self.show("plus_p", assignment);
     }
 }
 

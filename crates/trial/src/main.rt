@@ -39,7 +39,6 @@ use crate::changes::Claim;
 use crate::line::show;
 use circuit::circuits::Circuit;
 use circuit::wire::wire_count;
-use console::say_unwritten;
 use encoding::packed::packed_length;
 use limits::handed::ask_record;
 use limits::limit::OUR_LIMIT;
@@ -49,7 +48,6 @@ use record::space::assignment_space;
 use refusal::outcome::Refusal;
 use sample::counted;
 use sm3::digest::digest;
-use std::io;
 
 // The lengths of the records in bits.
 const LENGTHS: [u64; 6] = [0, 440, 448, 512, 8120, 8127];
@@ -67,19 +65,19 @@ fn produce_and_check(bits: u64, bytes: &[u8], sum: &mut [u8], out: &mut [u8]) ->
 
 // A record's assignment is produced, checked, and changed.
 #[tactic(auto, using(crate::proofs::Front::front_length), unfolding(circuit::specs::Wires::wire_count, limits::specs::Blocks::blocks))]
-fn try_record(rt: &HostRuntime, bits: u64, bytes: &[u8], room: &mut [u8]) -> io::Result<()>
+fn try_record(rt: &HostRuntime, bits: u64, bytes: &[u8], room: &mut [u8])
     requires { (bits ≤ most_bits) × (length bytes.now ≡ packed_length bits) × (spare_bits bits bytes.now ≡ 0) × (length room.old ≡ 2887688) }
 {
     let mut digest = [0u8; 32];
     let produced = produce_and_check(bits, bytes, &mut digest, room);
-    show(rt, bits, "produced", produced)?;
+    show(rt, bits, "produced", produced);
     let end = (8 * wire_count(Circuit::Record { bits })) as usize;
     let claim = Claim { rt, bits, digest };
-    claim.change_all(&mut room[..end])
+    claim.change_all(&mut room[..end]);
 }
 
 // The same for a record as it is handed over; none is refused here.
-fn try_handed(rt: &HostRuntime, bits: u64, bytes: &[u8], room: &mut [u8]) -> io::Result<()>
+fn try_handed(rt: &HostRuntime, bits: u64, bytes: &[u8], room: &mut [u8])
     requires { length room.old ≡ 2887688 }
 {
     match ask_record(OUR_LIMIT, bits, bytes) {
@@ -89,25 +87,17 @@ fn try_handed(rt: &HostRuntime, bits: u64, bytes: &[u8], room: &mut [u8]) -> io:
 }
 
 // The same for the record of so many bits whose byte k is k mod 251.
-fn try_length(rt: &HostRuntime, bits: u64, room: &mut [u8]) -> io::Result<()>
+fn try_length(rt: &HostRuntime, bits: u64, room: &mut [u8])
     requires { (bits ≤ most_bits) × (length room.old ≡ 2887688) }
 {
     let bytes = counted(bits);
     let end = packed_length(bits) as usize;
-    try_handed(rt, bits, &bytes[..end], room)
-}
-
-// The same for all of the lengths.
-fn try_all(rt: &HostRuntime) -> io::Result<()> {
-    let mut room = assignment_space();
-    for bits in LENGTHS {
-        try_length(rt, bits, &mut room)?;
-    }
-    Ok(())
+    try_handed(rt, bits, &bytes[..end], room);
 }
 
 fn main(rt: HostRuntime) {
-    if try_all(&rt).is_err() {
-        say_unwritten(&rt);
+    let mut room = assignment_space();
+    for bits in LENGTHS {
+        try_length(&rt, bits, &mut room);
     }
 }
