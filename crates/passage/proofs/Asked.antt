@@ -61,3 +61,14 @@ asked_as holds other k zero same = refl
 asked_as holds other k (suc m) same =
     ap (λ t. cond t (asked holds (suc k) m) (wrong_at k)) (same k (omega arith) (omega arith))
     ∙ ap (λ x. cond (other k) x (wrong_at k)) (asked_as holds other (suc k) m (λ j low high. same j (omega arith) (omega arith)))
+
+-- .. and tests that agree at places d further on: the place that is named is d further on too
+pub asked_moved : (holds other : ℕ → Bool) (d k m : ℕ) → ((j : ℕ) → k ≤ j → j < k + m → other (d + j) ≡ holds j)
+    → asked other (d + k) m ≡ lowest_failing holds (λ j. wrong_at (d + j)) done k m
+unfolding lowest_failing
+asked_moved holds other d k zero same = refl
+asked_moved holds other d k (suc m) same =
+    let place : suc (d + k) ≡ d + suc k = omega arith in
+    ap (λ t. cond t (asked other (suc (d + k)) m) (wrong_at (d + k))) (same k (omega arith) (omega arith))
+    ∙ ap (λ x. cond (holds k) x (wrong_at (d + k)))
+    (ap (λ i. asked other i m) place ∙ asked_moved holds other d (suc k) m (λ j low high. same j (omega arith) (omega arith)))

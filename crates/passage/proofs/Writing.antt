@@ -13,16 +13,18 @@ use lib.Dec.{ltb}
 use lib.ListN.{drop, get_or, get_or-append, length, length-append, take}
 use lib.Seq.{drop_at, get_or-drop, length-take-le, sets-eq}
 use Rattle.encoding.proofs.Written.{written-before, written_as}
+use Rattle.encoding.specs.Lowest.{lowest_failing}
 use Rattle.encoding.specs.Written.{Written}
 use Rattle.passage.proofs.Answers.{bytes_parts}
-use Rattle.passage.proofs.Asked.{asked_all, asked_as, asked_parts}
+use Rattle.passage.proofs.Asked.{asked_all, asked_as, asked_moved, asked_parts}
 use Rattle.passage.proofs.LineNumbers.{allowed_fit, axles_in_lem, lane_in}
 use Rattle.passage.proofs.LineParts.{axles_part, length_part, part_behind}
-use Rattle.passage.proofs.PlaceKinds.{first_run, run_allowed}
+use Rattle.passage.proofs.PlaceKinds.{first_run, plate_kind, run_allowed}
+use Rattle.passage.proofs.Values.{values}
 use Rattle.passage.specs.Format.{allowed_at, allows, axles, is_plate_byte, kind_at, lane, number_in}
 use Rattle.passage.specs.Front.{Fit, front}
 use Rattle.passage.specs.Read.{bytes_answer, low_answer, next}
-use Rattle.passage.specs.Runs.{asked}
+use Rattle.passage.specs.Runs.{asked, plate_fits, wrong_at}
 use Rattle.passage.specs.Write.{line_of, numeral, write_answer}
 use Rattle.passage.specs.declared.numbers.Numbers.{Numbers}
 use Rattle.refusal.specs.Refusals.{Outcome, done}
@@ -73,6 +75,12 @@ module _ (n : Numbers) (p b : List ℕ) where
             ∙ ap (λ low. next tail_asked Err (next low Err Room))
             (ap₂ low_answer (lane_in n p b (asked_fit fit)) (axles_in_lem n p b (asked_fit fit)))
         joined (Err r) e = refl
+
+-- The plate by itself: what is wrong in it is wrong in the line, 20 places further on.
+pub plate_asked : (n : Numbers) (p b : List ℕ) → length p ≡ 10
+    → asked (allowed_at (line_of n p b)) 20 10 ≡ lowest_failing (plate_fits 0 p) (λ i. wrong_at (20 + i)) done 0 10
+plate_asked n p b long =
+    asked_moved (plate_fits 0 p) (allowed_at (line_of n p b)) 20 0 10 (λ i low high. values.of_plate n p b long i high ∙ plate_kind p i high)
 
 -- The tail by itself.
 module _ (n : Numbers) (p b : List ℕ) (long-p : length p ≡ 10) (long-b : length b ≡ 32) {l l' : List ℕ} (room : 63 ≤ length l)

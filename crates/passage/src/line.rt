@@ -1,30 +1,62 @@
 // What is asked of a line before anything is made of it.
 ghost use Rattle.std.specs.Prelude.{◌≡◌, ◌+◌, ◌<◌, ◌≤◌, length};
-ghost use Rattle.passage.specs.Format.{allowed_at, kind_at};
+ghost use Rattle.passage.specs.Format.{allowed_at, fits, kind_at};
 ghost use Rattle.passage.specs.Read.{bytes_answer, line_answer, low_answer};
-ghost use Rattle.passage.specs.Runs.{Run, asked};
+ghost use Rattle.passage.specs.Runs.{Run, asked, plate_fits};
 ghost use Rattle.passage.specs.declared.format.Kind.TheVariants.{Comma};
 
 use crate::format::Kind;
 use crate::numbers::{ask_low, number_in};
-use crate::places::{
-    AXLES, BLIND, CLASS, Field, LANE, LAST_COMMA, LINE_LENGTH, PLATE_FIRST, PLATE_NEXT, TIME,
-};
+use crate::places::{AXLES, BLIND, CLASS, Field, LANE, LAST_COMMA, LINE_LENGTH, PLATE, TIME};
 use refusal::numbers::ByteNumber;
 use refusal::outcome::Refusal;
 
-// Refusal 16 of the lowest wrong place of a field, whose places are of one kind, or none.
+// Refusal 16 of the lowest of some places whose byte may not stand at a place of this kind, or none.
+pub fn ask_kind(kind: Kind, s: &[u8], places: Field) -> Result<(), Refusal>
+    requires { places.first + places.many ≤ length s.now }
+    ensures { result ≡ asked (fits kind s.now) places.first places.many }
+{
+    for k in places.first..places.first + places.many {
+        if !kind.allows(s[k.saturating_sub(1)], s[k]) {
+            return Err(Refusal::WrongByte(ByteNumber(k as u64)));
+        }
+    }
+    Ok(())
+}
+
+// .. of the 10 places of the plate that begins at `from`. Inlined by force too, so that its bounds are constants where a line is asked.
+#[tactic(auto, using(crate::proofs::InParts::plate_parts))]
+#[inline(always)]
+pub fn ask_plate(s: &[u8], from: usize) -> Result<(), Refusal>
+    requires { from + 10 ≤ length s.now }
+    ensures { result ≡ asked (plate_fits from s.now) from 10 }
+{
+    ask_kind(
+        Kind::PlateFirst,
+        s,
+        Field {
+            first: from,
+            many: 1,
+        },
+    )?;
+    ask_kind(
+        Kind::PlateNext,
+        s,
+        Field {
+            first: from + 1,
+            many: 9,
+        },
+    )
+}
+
+// .. of a field, whose places are of one kind.
+#[tactic(auto, using(crate::proofs::PlaceKinds::run_asked))]
 fn ask_run(kind: Kind, line: &[u8], field: Field) -> Result<(), Refusal>
     requires room { field.first + field.many ≤ length line.now }
     requires kind { Run kind field.first (field.first + field.many) }
     ensures { result ≡ asked (allowed_at line.now) field.first field.many }
 {
-    for k in field.first..field.first + field.many {
-        if !kind.allows(line[k.saturating_sub(1)], line[k]) {
-            return Err(Refusal::WrongByte(ByteNumber(k as u64)));
-        }
-    }
-    Ok(())
+    ask_kind(kind, line, field)
 }
 
 // .. of a field or of the comma behind it.
@@ -48,14 +80,13 @@ fn ask_field(kind: Kind, line: &[u8], field: Field) -> Result<(), Refusal>
 }
 
 // .. of the plate, the comma behind it or the blind. Inlined by force: with a call, a wrong field takes `write` 37 ns, not 35.
-#[tactic(auto, using(crate::proofs::InParts::tail_parts, crate::proofs::PlaceKinds::first_run, crate::proofs::PlaceKinds::next_run, crate::proofs::PlaceKinds::comma_run, crate::proofs::PlaceKinds::blind_run))]
+#[tactic(auto, using(crate::proofs::InParts::tail_parts, crate::proofs::PlaceKinds::comma_run, crate::proofs::PlaceKinds::blind_run))]
 #[inline(always)]
 pub fn ask_tail(line: &[u8]) -> Result<(), Refusal>
     requires { length line.now ≡ 63 }
     ensures { result ≡ asked (allowed_at line.now) 20 43 }
 {
-    ask_run(Kind::PlateFirst, line, PLATE_FIRST)?;
-    ask_run(Kind::PlateNext, line, PLATE_NEXT)?;
+    ask_plate(line, PLATE.first)?;
     ask_run(Kind::Comma, line, LAST_COMMA)?;
     ask_run(Kind::Hex, line, BLIND)
 }

@@ -25,11 +25,6 @@ pub const BLIND: Field = Field {
     many: 32,
 };
 
-// The plate's first place, which allows no `-`, and the others.
-pub const PLATE_FIRST: Field = Field { first: 20, many: 1 };
-
-pub const PLATE_NEXT: Field = Field { first: 21, many: 9 };
-
 // The comma behind the plate.
 pub const LAST_COMMA: Field = Field { first: 30, many: 1 };
 
