@@ -1,5 +1,5 @@
--- A line that is not refused is a record of 504 bits, and it fills its bytes. So neither the digest nor the producer refuses more than a buffer
--- that is too short, and `seal` answers as they do.
+-- A line that is not refused is a record of 504 bits, and it fills its bytes. So where both buffers are long enough neither the digest nor
+-- the producer refuses, and `seal` answers as they do.
 use Rattle.refusal.specs.Refusals.{Outcome, done}
 use Rattle.std.specs.Prelude.{Err}
 use mathlib.Core.List.{List}
@@ -25,6 +25,11 @@ use Rattle.refusal.specs.declared.outcome.Refusal.TheVariants.{BufferTooShort}
 use Rattle.refusal.specs.declared.outcome.Refusal.{Refusal}
 use Rattle.sm3.specs.Digest.{digest_answer}
 
+-- 8 bytes a wire
+pub assignment_bytes : 8 * wire_count (Record line_bits) ≡ 364552
+unfolding wire_count blocks
+assignment_bytes = refl
+
 pub line_record : (s : List ℕ) → Bytes s → length s ≡ line_length → IsRecord line_bits s
 unfolding spare_bits number
 line_record s bytes long = record { bytes = bytes; size = long; spare = refl }
@@ -38,13 +43,20 @@ handed_line : (s : List ℕ) (more : Outcome) → length s ≡ line_length → h
 unfolding handed_answer allowance blocks record_bytes_answer spare_bits number
 handed_line s more long = simp (eq-eqb (length s) line_length long)
 
--- so the digest is not refused
-pub line_digested : (s : List ℕ) (room : ℕ) → line_answer s ≡ done → 32 ≤ room → digest_answer partner_limit line_bits s room ≡ done
-line_digested s room right enough = handed_line s _ ((line_right s).0 right).0 ∙ simp (le-ltb room 32 enough)
+pub line_digested : (s : List ℕ) (room : ℕ) → length s ≡ line_length → 32 ≤ room → digest_answer partner_limit line_bits s room ≡ done
+line_digested s room long enough = handed_line s _ long ∙ simp (le-ltb room 32 enough)
 
 pub line_produced : (s : List ℕ) (room : ℕ) → length s ≡ line_length → 8 * wire_count (Record line_bits) ≤ room
     → produce_answer partner_limit line_bits s room ≡ done
 line_produced s room long enough = handed_line s _ long ∙ simp (le-ltb room (8 * wire_count (Record line_bits)) enough)
+
+-- .. so of a line that is not refused neither is
+pub right_digested : (s : List ℕ) (room : ℕ) → line_answer s ≡ done → 32 ≤ room → digest_answer partner_limit line_bits s room ≡ done
+right_digested s room right enough = line_digested s room ((line_right s).0 right).0 enough
+
+pub right_produced : (s : List ℕ) (room : ℕ) → line_answer s ≡ done → 8 * wire_count (Record line_bits) ≤ room
+    → produce_answer partner_limit line_bits s room ≡ done
+right_produced s room right enough = line_produced s room ((line_right s).0 right).0 enough
 
 module _ (s : List ℕ) (digestRoom assignmentRoom : ℕ) where
   pub seal_refused : (r : Refusal) → line_answer s ≡ Err r → seal_answer s digestRoom assignmentRoom ≡ Err r
@@ -56,7 +68,12 @@ module _ (s : List ℕ) (digestRoom assignmentRoom : ℕ) where
     unfolding seal_answer
     digest_short short = simp (right, lt-ltb digestRoom 32 short)
 
-    -- past both the producer decides
-    pub seal_produced : 32 ≤ digestRoom → seal_answer s digestRoom assignmentRoom ≡ produce_answer partner_limit line_bits s assignmentRoom
-    unfolding seal_answer
-    seal_produced enough = simp (right, le-ltb digestRoom 32 enough) (sym (handed_line s _ ((line_right s).0 right).0))
+    module _ (enough : 32 ≤ digestRoom) where
+      -- past both the producer decides
+      pub seal_produced : seal_answer s digestRoom assignmentRoom ≡ produce_answer partner_limit line_bits s assignmentRoom
+      unfolding seal_answer
+      seal_produced = simp (right, le-ltb digestRoom 32 enough) (sym (handed_line s _ ((line_right s).0 right).0))
+
+      pub assignment_short : assignmentRoom < 8 * wire_count (Record line_bits) → seal_answer s digestRoom assignmentRoom ≡ Err BufferTooShort
+      unfolding seal_answer
+      assignment_short short = simp (right, le-ltb digestRoom 32 enough, lt-ltb assignmentRoom (8 * wire_count (Record line_bits)) short)

@@ -14,9 +14,12 @@ pub const LINE_BITS: u64 = 8 * LINE_LENGTH as u64;
 // The bytes of a digest.
 const DIGEST_BYTES: usize = 32;
 
+// The bytes of a line's assignment, 8 a wire.
+const ASSIGNMENT_BYTES: usize = 364552;
+
 // Seals a line: its digest into the front of `digest`, its assignment into the front of `assignment`. Both are measured before
-// either is written: the digest's here, and the assignment's by its producer, which writes nothing where it refuses.
-#[tactic(auto, using(crate::proofs::Sealing::seal_refused, crate::proofs::Sealing::digest_short, crate::proofs::Sealing::seal_produced, crate::proofs::Sealing::line_digested))]
+// either is written.
+#[tactic(auto, using(crate::proofs::Sealing::seal_refused, crate::proofs::Sealing::digest_short, crate::proofs::Sealing::assignment_short, crate::proofs::Sealing::seal_produced, crate::proofs::Sealing::right_digested, crate::proofs::Sealing::right_produced, crate::proofs::Sealing::assignment_bytes))]
 pub fn seal(line: &[u8], digest: &mut [u8], assignment: &mut [u8]) -> Result<(), Refusal>
     ensures value { result ≡ seal_answer line.now (length digest.old) (length assignment.old) }
     ensures digest_after { digest.new ≡ digest_of_line result line.now digest.old }
@@ -26,6 +29,10 @@ pub fn seal(line: &[u8], digest: &mut [u8], assignment: &mut [u8]) -> Result<(),
     if digest.len() < DIGEST_BYTES {
         return Err(Refusal::BufferTooShort);
     }
-    produce(PARTNER_LIMIT, LINE_BITS, line, assignment)?;
-    sm3::digest::digest(PARTNER_LIMIT, LINE_BITS, line, digest)
+    if assignment.len() < ASSIGNMENT_BYTES {
+        return Err(Refusal::BufferTooShort);
+    }
+    // Both are long enough, so neither refuses.
+    let _ = sm3::digest::digest(PARTNER_LIMIT, LINE_BITS, line, digest);
+    produce(PARTNER_LIMIT, LINE_BITS, line, assignment)
 }
