@@ -21,7 +21,9 @@ fn check_packed(bits: u64, digest: &[u8], packed: &[u8], room: &mut [u8]) -> Res
     requires { length room.old ≡ 2887688 }
     ensures { result ≡ packed_check_answer bits digest.now packed.now }
 {
-    unpack(OUR_LIMIT, bits, packed, room)?;
+    if let Err(refusal) = unpack(OUR_LIMIT, bits, packed, room) {
+        return Err(refusal);
+    }
     let end = (8 * wire_count(Circuit::Record { bits })) as usize;
     check(OUR_LIMIT, bits, digest, &room[..end])
 }

@@ -1,6 +1,5 @@
 -- What unpacking refuses is refused; else the front of the room has the entries, and document 01's check answers.
 use Rattle.refusal.specs.Refusals.{done}
-use Rattle.std.proofs.lemmas.Result.{err_from_is_err_and}
 use mathlib.Core.List.{List}
 use mathlib.Core.Path.{◌≡◌, ◌∙◌, ap, sym}
 use Prim.Native.Nat.{ℕ, ◌*◌, ◌≤◌}
@@ -19,25 +18,23 @@ use Rattle.claim.proofs.answer.check_packed.Goals as goal
 range-done : (n : ℕ) (p : List ℕ) (room : ℕ) → unpack_answer our_limit n p room ≡ done → n ≤ most_bits
 range-done n p room done = (allowed_range ((unpack_done our_limit n p room).0 done).0)
 
-pub returns-in_err-unpack : goal.returns-in_err-unpack
-returns-in_err-unpack c =
+pub returns-in-Err : goal.returns-in-Err
+returns-in-Err c =
     let a = c.args in
-    let refused = err_from_is_err_and c.from_residual.result c.from_residual.ensures.1 in
-    rw (refused.1, refused.2)
-    (sym
+    sym
     (check-refused a.bits a.digest.now a.packed.now _ (λ range. omega (arith, most_bytes_lem a.bits range, c.requires)) _
-    (sym c.in_err-unpack.ensures.value)))
+    (sym c.in-Err.ensures.value))
 
 pub wire_count-requires : goal.wire_count-requires
-wire_count-requires c = range-done _ _ _ (sym c.in_ok-unpack.ensures.value)
+wire_count-requires c = range-done _ _ _ (sym c.in_default.ensures.value)
 
 pub slice_bounds-check-end : goal.slice_bounds-check-end
 slice_bounds-check-end c =
-    omega (arith, most_bytes_lem _ (range-done _ _ _ (sym c.in_ok-unpack.ensures.value)))
+    omega (arith, most_bytes_lem _ (range-done _ _ _ (sym c.in_default.ensures.value)))
 
 pub slice_bounds-check-end-2 : goal.slice_bounds-check-end-2
 slice_bounds-check-end-2 c =
-    sym (length-take-le _ _ (omega (arith, most_bytes_lem _ (range-done _ _ _ (sym c.in_ok-unpack.ensures.value)))))
+    sym (length-take-le _ _ (omega (arith, most_bytes_lem _ (range-done _ _ _ (sym c.in_default.ensures.value)))))
 
 pub returns : goal.returns
 returns c =
@@ -45,7 +42,7 @@ returns c =
     c.check.ensures
     ∙ ap (check_answer our_limit a.bits a.digest.now)
     (front_unpacked a.bits a.packed.now a.room.now _ _ _ c.unpack.ensures.value c.unpack.ensures.out_after
-    (ap (λ m. 8 * m) c.wire_count.ensures.0) c.in_ok-unpack.was)
+    (ap (λ m. 8 * m) c.wire_count.ensures.0) c.in_default.is)
     ∙ sym
     (check_unpacked a.bits a.digest.now a.packed.now _ (λ range. omega (arith, most_bytes_lem a.bits range, c.requires))
-    (sym c.in_ok-unpack.ensures.value))
+    (sym c.in_default.ensures.value))
