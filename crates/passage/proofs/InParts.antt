@@ -24,15 +24,21 @@ plate_parts s from =
     (asked_as (plate_fits from s) (fits PlateNext s) (from + 1) 9
     (λ k low high. ap (λ t. cond t (fits PlateFirst s k) (fits PlateNext s k)) (ne_eqb k from (λ e. absurd (omega arith)))))
 
-pub tail_parts : (s : List ℕ)
+pub tail_asked : (s : List ℕ)
     → asked (allowed_at s) 20 43
     ≡ next (asked (plate_fits 20 s) 20 10) Err (next (asked (allowed_at s) 30 1) Err (asked (allowed_at s) 31 32))
-tail_parts s =
+tail_asked s =
     asked_parts (allowed_at s) 20 10 33
     ∙ ap (λ o. next o Err (asked (allowed_at s) 30 33)) (asked_as (allowed_at s) (plate_fits 20 s) 20 10 (plate_allowed s))
     ∙ ap (next (asked (plate_fits 20 s) 20 10) Err) (asked_parts (allowed_at s) 30 1 32)
 
 module _ (holds : ℕ → Bool) where
+  pub tail_parts : asked holds 20 43 ≡ next (asked holds 20 1) Err (next (asked holds 21 9) Err (next (asked holds 30 1) Err (asked holds 31 32)))
+  tail_parts =
+      asked_parts holds 20 1 42
+      ∙ ap (next (asked holds 20 1) Err)
+      (asked_parts holds 21 9 33 ∙ ap (next (asked holds 21 9) Err) (asked_parts holds 30 1 32))
+
   pub line_parts : asked holds 0 63
       ≡ next (asked holds 0 4) Err (next (asked holds 4 11) Err (next (asked holds 15 2) Err (next (asked holds 17 3) Err (asked holds 20 43))))
   line_parts =

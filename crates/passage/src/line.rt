@@ -80,7 +80,7 @@ fn ask_field(kind: Kind, line: &[u8], field: Field) -> Result<(), Refusal>
 }
 
 // .. of the plate, the comma behind it or the blind. Inlined by force: with a call, a wrong field takes `write` 37 ns, not 35.
-#[tactic(auto, using(crate::proofs::InParts::tail_parts, crate::proofs::PlaceKinds::comma_run, crate::proofs::PlaceKinds::blind_run))]
+#[tactic(auto, using(crate::proofs::InParts::tail_asked, crate::proofs::PlaceKinds::comma_run, crate::proofs::PlaceKinds::blind_run))]
 #[inline(always)]
 pub fn ask_tail(line: &[u8]) -> Result<(), Refusal>
     requires { length line.now ≡ 63 }
